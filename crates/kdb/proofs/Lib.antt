@@ -1,0 +1,4 @@
+pub mod Lists
+pub mod Box
+pub mod Stands
+pub mod Cases

@@ -1,0 +1,43 @@
+-- Sequences of calls on one pool, and the records that are live after them. `live` is computed from the calls and their answers alone.
+use mathlib.Core.List.{List, [], _∷_, _++_}
+use Prim.Native.Nat.{ℕ, zero, suc}
+use Rattle.kdb.specs.Tree.{Rec}
+use Rattle.kdb.specs.Steps.{without}
+use Rattle.kdb.specs.Calls.{Call, format, check, place, remove, find, list, Outcome, outcome}
+
+-- the number and the values that a call returned
+pub record Answer : Type 0 where
+  pub number : ℕ
+  pub values : List ℕ
+
+abbrev pub answerOf : Outcome → Answer
+answerOf o = record { number = o .number; values = o .values }
+
+-- the pool's words after the calls, in order
+abbrev pub run : List ℕ → List Call → List ℕ
+run w [] = w
+run w (c ∷ cs) = run (outcome w c .after .pool) cs
+
+-- the answers of the calls, in order
+abbrev pub answers : List ℕ → List Call → List Answer
+answers w [] = []
+answers w (c ∷ cs) = answerOf (outcome w c) ∷ answers (outcome w c .after .pool) cs
+
+-- what one call that was done makes of the live records
+abbrev pub change : Call → List Rec → List Rec
+change (format k) rs = []
+change check rs = rs
+change (place work p l) rs = rs ++ (record { key = p; loc = l } ∷ [])
+change (remove p) rs = without p rs
+change (find p) rs = rs
+change (list v answer) rs = rs
+
+-- a refused call changes nothing
+abbrev pub changed : ℕ → Call → List Rec → List Rec
+changed zero c rs = change c rs
+changed (suc n) c rs = rs
+
+abbrev pub live : List Rec → List Call → List Answer → List Rec
+live rs [] told = rs
+live rs (c ∷ cs) [] = rs
+live rs (c ∷ cs) (a ∷ told) = live (changed (a .number) c rs) cs told

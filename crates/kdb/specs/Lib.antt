@@ -1,0 +1,14 @@
+pub mod Lists
+pub mod Box
+pub mod Tiling
+pub mod Tree
+pub mod Cut
+pub mod Steps
+pub mod Pages
+pub mod Shape
+pub mod Pool
+pub mod Print
+pub mod Walk
+pub mod Calls
+pub mod History
+pub mod Frames

@@ -1,0 +1,1 @@
+// Definitions and theorems only: what the signal index means. It has no function.
