@@ -1,78 +1,190 @@
--- The starred cases of document 01, as one table with one statement. A row starts from words, makes its calls in order, and compares every
--- answer and, where it gives them, every word of pool and work buffer after the last call.
+-- The starred cases of document 01: one table, one statement, `starred`. A row starts from words, makes its calls in order, and compares
+-- each answer (the number, then the values) and, where the row gives them, every word of pool, work buffer and answer buffer at the end.
 use mathlib.Core.Bool.{Bool, true, false, _&&_}
 use mathlib.Core.List.{List, [], _∷_, _++_, map}
+use mathlib.Core.Option.{Option, none, some}
 use mathlib.Core.Path.{_≡_, refl}
-use Prim.Native.Nat.{ℕ, zero, suc, _+_, _*_}
-use lib.Dec.{eqb}
-use lib.ListN.{replicate, length}
-use Rattle.kdb.specs.Lists.{every, same, pad}
-use Rattle.kdb.specs.Pool
-use Rattle.kdb.specs.Print
-use Rattle.kdb.specs.Calls.{Call, format, check, place, remove, find, list, Buffers, Outcome, outcome, lent}
-use Rattle.kdb.specs.History.{Answer, run, answers, answerOf}
+use Prim.Native.Nat.{ℕ, zero, suc, _+_}
+use lib.ListN.{replicate}
+use Rattle.kdb.specs.Lists.{every, gather, pad, same}
+use Rattle.kdb.specs.Pool.{goodLength, goodHeader}
+use Rattle.kdb.specs.Print.{sound}
+use Rattle.kdb.specs.Calls.{Call, format, check, place, remove, find, list, Buffers, outcome, lent}
+use Rattle.kdb.specs.History.{answers}
 
 pub record Row : Type 0 where
   pub start : List ℕ
   pub calls : List Call
   pub told : List (List ℕ)
-  -- the words of pool and work buffer at the end; none given: not compared
-  pub pool : List ℕ
-  pub work : List ℕ
+  pub pool : Option (List ℕ)
+  pub work : Option (List ℕ)
+  pub answer : Option (List ℕ)
 
 -- the buffers after the last call
-abbrev last : List ℕ → Call → List Call → Buffers
-last w c [] = outcome w c .after
-last w c (d ∷ cs) = last (outcome w c .after .pool) d cs
-
-abbrev ends : List ℕ → List Call → Buffers
+abbrev pub ends : List ℕ → List Call → Buffers
 ends w [] = lent w check
-ends w (c ∷ cs) = last w c cs
+ends w (c ∷ []) = outcome w c .after
+ends w (c ∷ d ∷ cs) = ends (outcome w c .after .pool) (d ∷ cs)
 
--- an answer as the number, then the values
-abbrev told-by : List ℕ → List Call → List (List ℕ)
-told-by w cs = map (λ a. a .number ∷ a .values) (answers w cs)
+abbrev pub sameAll : List (List ℕ) → List (List ℕ) → Bool
+sameAll [] [] = true
+sameAll [] (b ∷ m) = false
+sameAll (a ∷ l) [] = false
+sameAll (a ∷ l) (b ∷ m) = same a b && sameAll l m
 
-abbrev same-all : List (List ℕ) → List (List ℕ) → Bool
-same-all [] [] = true
-same-all [] (b ∷ m) = false
-same-all (a ∷ l) [] = false
-same-all (a ∷ l) (b ∷ m) = same a b && same-all l m
+abbrev pub asGiven : Option (List ℕ) → List ℕ → Bool
+asGiven none ws = true
+asGiven (some vs) ws = same vs ws
 
-abbrev as-given : List ℕ → List ℕ → Bool
-as-given [] ws = true
-as-given (a ∷ l) ws = same (a ∷ l) ws
-
-abbrev passes : Row → Bool
+abbrev pub passes : Row → Bool
 passes r =
-    let e = ends (r .start) (r .calls) in
-    same-all (told-by (r .start) (r .calls)) (r .told) && as-given (r .pool) (e .pool) && as-given (r .work) (e .work)
+    let b = ends (r .start) (r .calls) in
+    sameAll (map (λ a. a .number ∷ a .values) (answers (r .start) (r .calls))) (r .told)
+    && asGiven (r .pool) (b .pool) && asGiven (r .work) (b .work) && asGiven (r .answer) (b .answer)
 
--- keys a, a + s, .. of K 1, each placed with its key as location
-abbrev placings : ℕ → ℕ → ℕ → ℕ → List Call
-placings zero words a s = []
-placings (suc n) words a s = place (replicate words 7) (a ∷ []) a ∷ placings n words (a + s) s
+-- rows: of answers alone; of answers and every word of pool and work; of a list's answer and its slots
+abbrev pub tells : List ℕ → List Call → List (List ℕ) → Row
+tells w cs told = record { start = w; calls = cs; told = told; pool = none; work = none; answer = none }
 
-abbrev dones : ℕ → List (List ℕ)
-dones n = replicate n (0 ∷ [])
+abbrev pub leaves : List ℕ → List Call → List (List ℕ) → List ℕ → List ℕ → Row
+leaves w cs told pool work = record { start = w; calls = cs; told = told; pool = some pool; work = some work; answer = none }
 
-abbrev pairs : ℕ → ℕ → ℕ → List ℕ
-pairs zero a s = []
-pairs (suc n) a s = a ∷ a ∷ pairs n (a + s) s
+abbrev pub lists : List ℕ → List ℕ → List ℕ → List ℕ → List ℕ → Row
+lists w v slots told answer =
+    record { start = w; calls = list v slots ∷ []; told = told ∷ []; pool = some w; work = none; answer = some answer }
 
--- the pool of case 6, and before its last placing
-abbrev fourteen : ℕ → List ℕ
-fourteen n = pad 32 (1 ∷ n ∷ 1 ∷ 1 ∷ 14 ∷ []) ++ (pad 32 (2 ∷ 14 ∷ 0 ∷ 0 ∷ pairs 14 10 10) ++ replicate (32 * n) 0)
+-- words that no call put there
+abbrev pub junk : ℕ → List ℕ
+junk n = replicate n 77
 
-abbrev case6 : Row
-case6 = record {
-  start = replicate 128 5;
-  calls = format 1 ∷ placings 15 128 10 10;
-  told = dones 16;
-  pool = pad 32 (1 ∷ 4 ∷ 3 ∷ 2 ∷ 15 ∷ []) ++ (pad 32 (2 ∷ 7 ∷ 0 ∷ 0 ∷ pairs 7 10 10) ++ (pad 32 (2 ∷ 8 ∷ 0 ∷ 0 ∷ pairs 8 80 10) ++ pad 32 (1 ∷ 2 ∷ 0 ∷ 0 ∷ 0 ∷ 80 ∷ 1 ∷ 80 ∷ 4294967295 ∷ 2 ∷ [])));
-  work = [];
-}
+-- a pool of these pages, each filled up with zeros
+abbrev pub pool-of : List (List ℕ) → List ℕ
+pool-of ps = gather (pad 32) ps
 
-t6 : passes case6 ≡ true
-unfolding outcome Pool.goodLength Pool.goodHeader Print.sound
-t6 = refl
+-- n placings with the keys a, a + 10, .. of K 1, each with its key as location
+abbrev pub tens : ℕ → ℕ → ℕ → List Call
+tens zero words a = []
+tens (suc n) words a = place (junk words) (a ∷ []) a ∷ tens n words (a + 10)
+
+-- n placings of the first key x and the second keys y, y + 1, .., with locations from l on
+abbrev pub column : ℕ → ℕ → ℕ → ℕ → List Call
+column zero x y l = []
+column (suc n) x y l = place (junk 128) (x ∷ y ∷ []) l ∷ column n x (y + 1) (l + 1)
+
+abbrev pub done : ℕ → List (List ℕ)
+done n = replicate n (0 ∷ [])
+
+abbrev pub top : ℕ
+top = 4294967294
+
+abbrev pub inf : ℕ
+inf = 4294967295
+
+-- case 6 before and after the fifteenth placing, on n pages
+abbrev pub fourteen : ℕ → List (List ℕ) → List ℕ
+fourteen n rest =
+    pool-of ((1 ∷ n ∷ 1 ∷ 1 ∷ 14 ∷ [])
+    ∷ (2 ∷ 14 ∷ 0 ∷ 0 ∷ 10 ∷ 10 ∷ 20 ∷ 20 ∷ 30 ∷ 30 ∷ 40 ∷ 40 ∷ 50 ∷ 50 ∷ 60 ∷ 60 ∷ 70 ∷ 70 ∷ 80 ∷ 80 ∷ 90 ∷ 90 ∷ 100 ∷ 100 ∷ 110 ∷ 110 ∷ 120 ∷ 120 ∷ 130 ∷ 130 ∷ 140 ∷ 140 ∷ [])
+    ∷ rest)
+
+abbrev pub fifteen : List ℕ
+fifteen =
+    pool-of ((1 ∷ 4 ∷ 3 ∷ 2 ∷ 15 ∷ [])
+    ∷ (2 ∷ 7 ∷ 0 ∷ 0 ∷ 10 ∷ 10 ∷ 20 ∷ 20 ∷ 30 ∷ 30 ∷ 40 ∷ 40 ∷ 50 ∷ 50 ∷ 60 ∷ 60 ∷ 70 ∷ 70 ∷ [])
+    ∷ (2 ∷ 8 ∷ 0 ∷ 0 ∷ 80 ∷ 80 ∷ 90 ∷ 90 ∷ 100 ∷ 100 ∷ 110 ∷ 110 ∷ 120 ∷ 120 ∷ 130 ∷ 130 ∷ 140 ∷ 140 ∷ 150 ∷ 150 ∷ [])
+    ∷ (1 ∷ 2 ∷ 0 ∷ 0 ∷ 0 ∷ 80 ∷ 1 ∷ 80 ∷ inf ∷ 2 ∷ []) ∷ [])
+
+-- case 9 before and after the tenth placing
+abbrev pub nine-fives : List ℕ
+nine-fives =
+    pool-of ((2 ∷ 4 ∷ 1 ∷ 1 ∷ 9 ∷ [])
+    ∷ (2 ∷ 9 ∷ 0 ∷ 0 ∷ 5 ∷ 0 ∷ 100 ∷ 5 ∷ 1 ∷ 101 ∷ 5 ∷ 2 ∷ 102 ∷ 5 ∷ 3 ∷ 103 ∷ 5 ∷ 4 ∷ 104 ∷ 5 ∷ 5 ∷ 105 ∷ 5 ∷ 6 ∷ 106 ∷ 5 ∷ 7 ∷ 107 ∷ 5 ∷ 8 ∷ 108 ∷ [])
+    ∷ [] ∷ [] ∷ [])
+
+abbrev pub ten-fives : List ℕ
+ten-fives =
+    pool-of ((2 ∷ 4 ∷ 3 ∷ 2 ∷ 10 ∷ [])
+    ∷ (2 ∷ 5 ∷ 0 ∷ 0 ∷ 5 ∷ 0 ∷ 100 ∷ 5 ∷ 1 ∷ 101 ∷ 5 ∷ 2 ∷ 102 ∷ 5 ∷ 3 ∷ 103 ∷ 5 ∷ 4 ∷ 104 ∷ [])
+    ∷ (2 ∷ 5 ∷ 0 ∷ 0 ∷ 5 ∷ 5 ∷ 105 ∷ 5 ∷ 6 ∷ 106 ∷ 5 ∷ 7 ∷ 107 ∷ 5 ∷ 8 ∷ 108 ∷ 5 ∷ 9 ∷ 109 ∷ [])
+    ∷ (1 ∷ 2 ∷ 0 ∷ 0 ∷ 0 ∷ 0 ∷ inf ∷ 5 ∷ 1 ∷ 0 ∷ 5 ∷ inf ∷ inf ∷ 2 ∷ []) ∷ [])
+
+-- case 10 before and after the tenth placing
+abbrev pub nine-threes : List ℕ
+nine-threes =
+    pool-of ((2 ∷ 4 ∷ 1 ∷ 1 ∷ 9 ∷ [])
+    ∷ (2 ∷ 9 ∷ 0 ∷ 0 ∷ 3 ∷ 0 ∷ 200 ∷ 3 ∷ 1 ∷ 201 ∷ 3 ∷ 2 ∷ 202 ∷ 3 ∷ 3 ∷ 203 ∷ 3 ∷ 4 ∷ 204 ∷ 3 ∷ 5 ∷ 205 ∷ 3 ∷ 6 ∷ 206 ∷ 3 ∷ 7 ∷ 207 ∷ 3 ∷ 8 ∷ 208 ∷ [])
+    ∷ [] ∷ [] ∷ [])
+
+abbrev pub one-eight : List ℕ
+one-eight =
+    pool-of ((2 ∷ 4 ∷ 3 ∷ 2 ∷ 10 ∷ [])
+    ∷ (2 ∷ 9 ∷ 1 ∷ 0 ∷ 3 ∷ 0 ∷ 200 ∷ 3 ∷ 1 ∷ 201 ∷ 3 ∷ 2 ∷ 202 ∷ 3 ∷ 3 ∷ 203 ∷ 3 ∷ 4 ∷ 204 ∷ 3 ∷ 5 ∷ 205 ∷ 3 ∷ 6 ∷ 206 ∷ 3 ∷ 7 ∷ 207 ∷ 3 ∷ 8 ∷ 208 ∷ [])
+    ∷ (2 ∷ 1 ∷ 1 ∷ 0 ∷ 8 ∷ 9 ∷ 209 ∷ [])
+    ∷ (1 ∷ 2 ∷ 0 ∷ 0 ∷ 0 ∷ 0 ∷ 8 ∷ inf ∷ 1 ∷ 8 ∷ 0 ∷ inf ∷ inf ∷ 2 ∷ []) ∷ [])
+
+-- a full root: placing 27, 7 splits page 6, then the root along 5 in domain 0, which the region of page 4 crosses and that of page 6 touches
+abbrev pub uncrossed : List ℕ
+uncrossed =
+    pool-of ((2 ∷ 11 ∷ 3 ∷ 2 ∷ 28 ∷ [])
+    ∷ (2 ∷ 2 ∷ 1 ∷ 0 ∷ 1 ∷ 28 ∷ 16 ∷ 4 ∷ 12 ∷ 21 ∷ [])
+    ∷ (2 ∷ 5 ∷ 0 ∷ 0 ∷ 36 ∷ 5 ∷ 3 ∷ 39 ∷ 7 ∷ 7 ∷ 33 ∷ 15 ∷ 17 ∷ 37 ∷ 15 ∷ 19 ∷ 34 ∷ 9 ∷ 25 ∷ [])
+    ∷ (1 ∷ 5 ∷ 0 ∷ 0 ∷ 0 ∷ 0 ∷ 5 ∷ 29 ∷ 1 ∷ 31 ∷ 0 ∷ inf ∷ 24 ∷ 2 ∷ 0 ∷ 29 ∷ 31 ∷ inf ∷ 4 ∷ 31 ∷ 24 ∷ inf ∷ inf ∷ 5 ∷ 5 ∷ 0 ∷ 31 ∷ 29 ∷ 6 ∷ [])
+    ∷ (2 ∷ 7 ∷ 0 ∷ 0 ∷ 2 ∷ 37 ∷ 0 ∷ 26 ∷ 37 ∷ 5 ∷ 6 ∷ 31 ∷ 10 ∷ 16 ∷ 36 ∷ 11 ∷ 13 ∷ 29 ∷ 14 ∷ 13 ∷ 39 ∷ 18 ∷ 22 ∷ 39 ∷ 28 ∷ [])
+    ∷ (2 ∷ 5 ∷ 0 ∷ 0 ∷ 31 ∷ 24 ∷ 2 ∷ 39 ∷ 30 ∷ 8 ∷ 34 ∷ 38 ∷ 9 ∷ 31 ∷ 36 ∷ 20 ∷ 36 ∷ 34 ∷ 22 ∷ [])
+    ∷ (2 ∷ 9 ∷ 1 ∷ 0 ∷ 5 ∷ 3 ∷ 1 ∷ 30 ∷ 14 ∷ 4 ∷ 5 ∷ 26 ∷ 6 ∷ 5 ∷ 18 ∷ 12 ∷ 29 ∷ 20 ∷ 15 ∷ 5 ∷ 23 ∷ 23 ∷ 19 ∷ 19 ∷ 24 ∷ 26 ∷ 21 ∷ 26 ∷ 11 ∷ 0 ∷ 27 ∷ [])
+    ∷ [] ∷ [] ∷ [] ∷ [] ∷ [])
+
+abbrev pub crossed : List ℕ
+crossed =
+    pool-of ((2 ∷ 11 ∷ 10 ∷ 3 ∷ 29 ∷ [])
+    ∷ (2 ∷ 2 ∷ 1 ∷ 0 ∷ 1 ∷ 28 ∷ 16 ∷ 4 ∷ 12 ∷ 21 ∷ [])
+    ∷ (2 ∷ 5 ∷ 0 ∷ 0 ∷ 36 ∷ 5 ∷ 3 ∷ 39 ∷ 7 ∷ 7 ∷ 33 ∷ 15 ∷ 17 ∷ 37 ∷ 15 ∷ 19 ∷ 34 ∷ 9 ∷ 25 ∷ [])
+    ∷ (1 ∷ 2 ∷ 1 ∷ 0 ∷ 0 ∷ 0 ∷ 5 ∷ 29 ∷ 1 ∷ 0 ∷ 29 ∷ 5 ∷ inf ∷ 4 ∷ [])
+    ∷ (2 ∷ 1 ∷ 0 ∷ 0 ∷ 2 ∷ 37 ∷ [])
+    ∷ (2 ∷ 5 ∷ 0 ∷ 0 ∷ 31 ∷ 24 ∷ 2 ∷ 39 ∷ 30 ∷ 8 ∷ 34 ∷ 38 ∷ 9 ∷ 31 ∷ 36 ∷ 20 ∷ 36 ∷ 34 ∷ 22 ∷ [])
+    ∷ (2 ∷ 5 ∷ 0 ∷ 0 ∷ 5 ∷ 3 ∷ 1 ∷ 30 ∷ 14 ∷ 4 ∷ 5 ∷ 18 ∷ 12 ∷ 11 ∷ 0 ∷ 27 ∷ 27 ∷ 7 ∷ 29 ∷ [])
+    ∷ (2 ∷ 5 ∷ 0 ∷ 0 ∷ 5 ∷ 26 ∷ 6 ∷ 29 ∷ 20 ∷ 15 ∷ 5 ∷ 23 ∷ 23 ∷ 19 ∷ 19 ∷ 24 ∷ 26 ∷ 21 ∷ 26 ∷ [])
+    ∷ (1 ∷ 5 ∷ 1 ∷ 0 ∷ 31 ∷ 0 ∷ inf ∷ 24 ∷ 2 ∷ 5 ∷ 29 ∷ 31 ∷ inf ∷ 9 ∷ 31 ∷ 24 ∷ inf ∷ inf ∷ 5 ∷ 5 ∷ 0 ∷ 31 ∷ 19 ∷ 6 ∷ 5 ∷ 19 ∷ 31 ∷ 29 ∷ 7 ∷ [])
+    ∷ (2 ∷ 6 ∷ 0 ∷ 0 ∷ 26 ∷ 37 ∷ 5 ∷ 6 ∷ 31 ∷ 10 ∷ 16 ∷ 36 ∷ 11 ∷ 13 ∷ 29 ∷ 14 ∷ 13 ∷ 39 ∷ 18 ∷ 22 ∷ 39 ∷ 28 ∷ [])
+    ∷ (1 ∷ 2 ∷ 0 ∷ 0 ∷ 0 ∷ 0 ∷ 5 ∷ inf ∷ 3 ∷ 5 ∷ 0 ∷ inf ∷ inf ∷ 8 ∷ []) ∷ [])
+
+abbrev pub table : List Row
+table =
+    -- 1. format: lengths 64 and 16,384 are taken; 0, 32, 63 and 16,416 give 1
+    record { start = junk 64; calls = format 2 ∷ []; told = (0 ∷ []) ∷ []; pool = some (2 ∷ 2 ∷ replicate 62 0); work = none; answer = none }
+    ∷ tells (junk 16384) (format 1 ∷ check ∷ []) (done 2)
+    ∷ tells [] (format 1 ∷ []) ((1 ∷ []) ∷ [])
+    ∷ tells (junk 32) (format 1 ∷ []) ((1 ∷ []) ∷ [])
+    ∷ tells (junk 63) (format 1 ∷ []) ((1 ∷ []) ∷ [])
+    ∷ tells (junk 16416) (format 1 ∷ []) ((1 ∷ []) ∷ [])
+    -- 2. K 0 and K 5 give 2; K 5 with 63 words gives 1
+    ∷ tells (junk 64) (format 0 ∷ format 5 ∷ []) ((2 ∷ []) ∷ (2 ∷ []) ∷ [])
+    ∷ tells (junk 63) (format 5 ∷ []) ((1 ∷ []) ∷ [])
+    -- 3. the key 4,294,967,294 is placed; 4,294,967,295 gives 4
+    ∷ tells (junk 64) (format 1 ∷ place (junk 64) (top ∷ []) 3 ∷ place (junk 64) (inf ∷ []) 3 ∷ find (top ∷ []) ∷ find (inf ∷ []) ∷ [])
+    ((0 ∷ []) ∷ (0 ∷ []) ∷ (4 ∷ []) ∷ (0 ∷ 3 ∷ 1 ∷ []) ∷ (4 ∷ []) ∷ [])
+    -- 4. lower 6, upper 5 gives 5; 5 and 5 is taken; lower 6, upper 4,294,967,295 gives 4
+    ∷ tells (junk 64) (format 1 ∷ list (6 ∷ 5 ∷ []) [] ∷ list (5 ∷ 5 ∷ []) [] ∷ list (6 ∷ inf ∷ []) [] ∷ [])
+    ((0 ∷ []) ∷ (5 ∷ []) ∷ (0 ∷ 0 ∷ 0 ∷ []) ∷ (4 ∷ []) ∷ [])
+    -- 5. nothing placed: a list has total 0 and reads 0
+    ∷ lists (2 ∷ 2 ∷ replicate 62 0) (0 ∷ 0 ∷ top ∷ top ∷ []) (9 ∷ 9 ∷ []) (0 ∷ 0 ∷ 0 ∷ []) (9 ∷ 9 ∷ [])
+    -- 6. K 1, keys 10, 20 .. 150 in order: the fifteenth cuts at 80
+    ∷ leaves (junk 128) (format 1 ∷ tens 15 128 10) (done 16) fifteen (fourteen 4 ([] ∷ [] ∷ []))
+    -- 7. the same with N = 3: the fifteenth gives 9
+    ∷ leaves (junk 96) (format 1 ∷ tens 15 96 10) (done 15 ++ ((9 ∷ []) ∷ [])) (fourteen 3 ([] ∷ [])) (fourteen 3 ([] ∷ []))
+    -- 8. in case 6, window 80 to 80 reads 2 pages, total 1; 79 to 80 reads 3, total 1; 70 to 79 reads 2, total 1
+    ∷ lists fifteen (80 ∷ 80 ∷ []) (9 ∷ 9 ∷ []) (0 ∷ 1 ∷ 2 ∷ []) (80 ∷ 9 ∷ [])
+    ∷ lists fifteen (79 ∷ 80 ∷ []) (9 ∷ 9 ∷ []) (0 ∷ 1 ∷ 3 ∷ []) (80 ∷ 9 ∷ [])
+    ∷ lists fifteen (70 ∷ 79 ∷ []) (9 ∷ 9 ∷ []) (0 ∷ 1 ∷ 2 ∷ []) (70 ∷ 9 ∷ [])
+    -- 9. K 2, ten points with first key 5 and second keys 0 to 9: the cut is 5 in domain 1; both pages get domain 0
+    ∷ leaves (junk 128) (format 2 ∷ column 10 5 0 100) (done 11) ten-fives nine-fives
+    -- 10. K 2, first keys nine 3s and one 8, second keys all different: the cut is 8 in domain 0, nine left and one right
+    ∷ leaves (junk 128) (format 2 ∷ (column 9 3 0 200 ++ column 1 8 9 209)) (done 11) one-eight nine-threes
+    -- besides the ten: a chosen split of a region page with a crossing entry
+    ∷ leaves uncrossed (place (junk 352) (27 ∷ 7 ∷ []) 29 ∷ []) (done 1) crossed uncrossed
+    ∷ tells crossed (check ∷ []) (done 1)
+    ∷ []
+
+pub starred : every passes table ≡ true
+unfolding outcome goodLength goodHeader sound
+starred = refl
