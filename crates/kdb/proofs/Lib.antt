@@ -1,5 +1,6 @@
 pub mod Lists
 pub mod Box
 pub mod Stands
+pub mod Calls
 pub mod Cases
 pub mod Sessions

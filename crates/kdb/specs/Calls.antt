@@ -60,10 +60,24 @@ gives vs b = record { number = 0; values = vs; after = b }
 abbrev pub refuses : ℕ → Buffers → Outcome
 refuses n b = record { number = n; values = []; after = b }
 
+-- a test, or the number of the refusal that is given unless it holds
+pub record Test : Type 0 where
+  pub holds : Bool
+  pub refusal : ℕ
+
+infix 20 _or_
+abbrev pub _or_ : Bool → ℕ → Test
+t or n = record { holds = t; refusal = n }
+
 -- refusal n, with the buffers as they were, unless the test holds
 abbrev pub unless : Bool → ℕ → Buffers → Outcome → Outcome
 unless true n b o = o
 unless false n b o = refuses n b
+
+-- the first test that fails gives its refusal; where all hold the outcome is o
+abbrev pub judge : List Test → Buffers → Outcome → Outcome
+judge [] b o = o
+judge (t ∷ ts) b o = unless (t .holds) (t .refusal) b (judge ts b o)
 
 -- the tests of the arguments
 abbrev pub goodDomains : ℕ → Bool
@@ -120,59 +134,61 @@ listing t w answer =
     cond (t .bad) (refuses 6 (record { pool = w; work = []; answer = replicate (length answer) 0 }))
     (gives (length (t .found) ∷ length (t .read) ∷ []) (record { pool = w; work = []; answer = filled answer (t .found) }))
 
+-- the refusals of each call, in the order in which they are tested
+abbrev pub tests : List ℕ → Call → List Test
+tests w (format k) =
+    (goodLength L w or 1)
+    ∷ (goodDomains k or 2)
+    ∷ []
+tests w check =
+    (goodLength L w or 1)
+    ∷ (goodHeader L w or 6)
+    ∷ (sound L w or 6)
+    ∷ []
+tests w (place work p l) =
+    (goodLength L w or 1)
+    ∷ (goodHeader L w or 6)
+    ∷ ((eqb (length p) (domains w) && eqb (length work) (length w)) or 3)
+    ∷ (finite p or 4)
+    ∷ (sound L w or 6)
+    ∷ (not (present (findWalk L w p .end)) or 7)
+    ∷ []
+tests w (remove p) =
+    (goodLength L w or 1)
+    ∷ (goodHeader L w or 6)
+    ∷ (eqb (length p) (domains w) or 3)
+    ∷ (finite p or 4)
+    ∷ (sound L w or 6)
+    ∷ []
+tests w (find p) =
+    (goodLength L w or 1)
+    ∷ (goodHeader L w or 6)
+    ∷ (eqb (length p) (domains w) or 3)
+    ∷ (finite p or 4)
+    ∷ []
+tests w (list v answer) =
+    (goodLength L w or 1)
+    ∷ (goodHeader L w or 6)
+    ∷ (eqb (length v) (2 * domains w) or 3)
+    ∷ (finite v or 4)
+    ∷ (ordered (windowOf (domains w) v) or 5)
+    ∷ []
+
+-- what a call does once its tests hold: place may still give 9, remove and find 8, find and list 6
+abbrev pub core : List ℕ → Call → Outcome
+core w (format k) = gives [] (record { pool = formatted w k; work = []; answer = [] })
+core w check = gives [] (lent w check)
+core w (place work p l) = placing (stepped w (record { key = p; loc = l })) w
+core w (remove p) = removing (findWalk L w p .end) w p
+core w (find p) = finding (findWalk L w p) (lent w (find p))
+core w (list v answer) = listing (listWalk L w (windowOf (domains w) v)) w answer
+
 unfoldable pub outcome : List ℕ → Call → Outcome
-outcome w (format k) =
-    let b = lent w (format k) in
-    unless (goodLength L w) 1 b
-    (unless (goodDomains k) 2 b
-    (gives [] (record { pool = formatted w k; work = []; answer = [] })))
-outcome w check =
-    let b = lent w check in
-    unless (goodLength L w) 1 b
-    (unless (goodHeader L w) 6 b
-    (unless (sound L w) 6 b
-    (gives [] b)))
-outcome w (place work p l) =
-    let b = lent w (place work p l) in
-    unless (goodLength L w) 1 b
-    (unless (goodHeader L w) 6 b
-    (unless (eqb (length p) (domains w) && eqb (length work) (length w)) 3 b
-    (unless (finite p) 4 b
-    (unless (sound L w) 6 b
-    (unless (not (present (findWalk L w p .end))) 7 b
-    (placing (stepped w (record { key = p; loc = l })) w))))))
-outcome w (remove p) =
-    let b = lent w (remove p) in
-    unless (goodLength L w) 1 b
-    (unless (goodHeader L w) 6 b
-    (unless (eqb (length p) (domains w)) 3 b
-    (unless (finite p) 4 b
-    (unless (sound L w) 6 b
-    (removing (findWalk L w p .end) w p)))))
-outcome w (find p) =
-    let b = lent w (find p) in
-    unless (goodLength L w) 1 b
-    (unless (goodHeader L w) 6 b
-    (unless (eqb (length p) (domains w)) 3 b
-    (unless (finite p) 4 b
-    (finding (findWalk L w p) b))))
-outcome w (list v answer) =
-    let b = lent w (list v answer) in
-    unless (goodLength L w) 1 b
-    (unless (goodHeader L w) 6 b
-    (unless (eqb (length v) (2 * domains w)) 3 b
-    (unless (finite v) 4 b
-    (unless (ordered (windowOf (domains w) v)) 5 b
-    (listing (listWalk L w (windowOf (domains w) v)) w answer)))))
+outcome w c = judge (tests w c) (lent w c) (core w c)
 
 -- the walk of a call: the pages that find or list reads, in order; a call refused before its walk begins reads nothing
 abbrev pub begins : List ℕ → Call → Bool
-begins w (format k) = false
-begins w check = false
-begins w (place work p l) = false
-begins w (remove p) = false
-begins w (find p) = goodLength L w && goodHeader L w && eqb (length p) (domains w) && finite p
-begins w (list v answer) = goodLength L w && goodHeader L w && eqb (length v) (2 * domains w) && finite v && ordered (windowOf (domains w) v)
+begins w c = every (λ t. t .holds) (tests w c)
 
 abbrev pub walkOf : List ℕ → Call → List ℕ
 walkOf w (format k) = []
