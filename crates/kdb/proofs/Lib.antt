@@ -1,5 +1,6 @@
 pub mod Lists
 pub mod Box
 pub mod Tiling
+pub mod Fair
 pub mod Stands
 pub mod Cases
