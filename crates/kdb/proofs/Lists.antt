@@ -242,3 +242,10 @@ sum-many (p ∷ ps) n a h =
 -- different numbers, all of the n from a on, are at most n
 pub few : (ps : List ℕ) (n a : ℕ) → Ranged n a ps → ((c : ℕ) → many c ps ≤ 1) → length ps ≤ n
 few ps n a h once = omega (arith, sum-many ps n a h, sum-most (λ j. many j ps) once n a)
+
+pub getD-pad : (n : ℕ) (ws : List ℕ) (i : ℕ) → i < n → getD (pad n ws) i 0 ≡ getD ws i 0
+getD-pad zero ws i h = absurd (omega arith)
+getD-pad (suc n) [] zero h = refl
+getD-pad (suc n) [] (suc i) h = getD-pad n [] i (omega arith)
+getD-pad (suc n) (a ∷ ws) zero h = refl
+getD-pad (suc n) (a ∷ ws) (suc i) h = getD-pad n ws i (omega arith)
