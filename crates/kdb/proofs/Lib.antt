@@ -4,5 +4,9 @@ pub mod Tiling
 pub mod Fair
 pub mod Stands
 pub mod Calls
+pub mod Pages
+pub mod Views
+pub mod Stands
+pub mod Print
 pub mod Cases
 pub mod Sessions
