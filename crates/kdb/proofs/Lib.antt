@@ -1,4 +1,5 @@
 pub mod Lists
 pub mod Box
 pub mod Stands
+pub mod Walk
 pub mod Cases

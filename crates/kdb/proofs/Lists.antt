@@ -134,3 +134,20 @@ pub length-pad : (n : ℕ) (ws : List ℕ) → length (pad n ws) ≡ n
 length-pad zero ws = refl
 length-pad (suc n) [] = ap suc (length-pad n [])
 length-pad (suc n) (w ∷ ws) = ap suc (length-pad n ws)
+
+-- parts of lists, and the numbers on them
+module _ {ℓ} {A : Type ℓ} where
+  pub every-take : (f : A → Bool) (n : ℕ) (l : List A) → T (every f l) → T (every f (take n l))
+  every-take f zero l t = tt
+  every-take f (suc n) [] t = tt
+  every-take f (suc n) (a ∷ l) t = and-i (f a) _ (and-l (f a) _ t) (every-take f n l (and-r (f a) _ t))
+
+-- a test that every number of the list passes, at a number that stands there
+pub every-many : (f : ℕ → Bool) (l : List ℕ) → T (every f l) → (c : ℕ) → 1 ≤ many c l → T (f c)
+every-many f [] t c h = absurd (omega arith)
+every-many f (a ∷ l) t c h =
+    bool (eqb c a) (λ e. rw (eqb→eq c a e) (and-l (f a) _ t)) (λ e. every-many f l (and-r (f a) _ t) c (omega (arith, ap bit (is-false (eqb c a) e))))
+
+pub pos : (m : ℕ) → T (not (eqb m 0)) → 1 ≤ m
+pos zero h = absurd h
+pos (suc m) h = omega arith
