@@ -2,4 +2,5 @@ pub mod Lists
 pub mod Box
 pub mod Stands
 pub mod Walk
+pub mod Local
 pub mod Cases

@@ -6,6 +6,7 @@ use Prim.Native.Nat.{ℕ, zero, suc, _+_, _-_, _<_, _≤_, min}
 use native.Mathlib.Omega.{arith}
 use lib.Dec.{T, leb, ltb, eqb, leb→le, le→leb, ltb→lt, lt→ltb, nleb→lt, nltb→le, eqb→eq, eqb-refl}
 use lib.ListN.{length, take, drop, getD, length-append}
+use lib.Seq.{take-append-add, take-take}
 use borrow.Author.Tests.{eq-eqb, ne-eqb}
 use Rattle.kdb.specs.Lists.{bit, only, tally, every, any, Each, gather, sum, many, upFrom, pad, same}
 
@@ -151,3 +152,17 @@ every-many f (a ∷ l) t c h =
 pub pos : (m : ℕ) → T (not (eqb m 0)) → 1 ≤ m
 pos zero h = absurd h
 pos (suc m) h = omega arith
+
+-- beginnings of lists
+module _ {ℓ} {A : Type ℓ} where
+  pub take-past : (m : ℕ) (l k : List A) → length l ≤ m → take m (l ++ k) ≡ l ++ take (m - length l) k
+  take-past m l k h = let e : m ≡ length l + (m - length l) = omega arith in ap (λ n. take n (l ++ k)) e ∙ take-append-add l k (m - length l)
+
+  pub take-less : (m : ℕ) (l k : List A) → take (suc m) l ≡ take (suc m) k → take m l ≡ take m k
+  take-less m l k e = sym (take-take m (suc m) l (omega arith)) ∙ ap (take m) e ∙ take-take m (suc m) k (omega arith)
+
+  -- a list's beginning is no longer than the list's with more behind it
+  pub tally-front : (g : A → Bool) (m : ℕ) (l k : List A) → tally g (take m l) ≤ tally g (take m (l ++ k))
+  tally-front g zero l k = omega arith
+  tally-front g (suc m) [] k = omega arith
+  tally-front g (suc m) (a ∷ l) k = omega (arith, tally-front g m l k)
