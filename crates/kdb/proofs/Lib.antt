@@ -8,5 +8,7 @@ pub mod Pages
 pub mod Views
 pub mod Stands
 pub mod Print
+pub mod Walk
+pub mod Local
 pub mod Cases
 pub mod Sessions

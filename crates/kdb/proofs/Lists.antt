@@ -8,6 +8,7 @@ use lib.Dec.{T, leb, ltb, eqb, leb→le, le→leb, ltb→lt, lt→ltb, nleb→lt
 use native.Mathlib.Nat.{zero-mul, suc-mul}
 use lib.Dec.{T, T-not, leb, ltb, eqb, leb→le, le→leb, ltb→lt, lt→ltb, nleb→lt, nltb→le, eqb→eq, eqb-refl}
 use lib.ListN.{length, take, drop, getD, length-append}
+use lib.Seq.{take-append-add, take-take}
 use borrow.Author.Tests.{eq-eqb, ne-eqb}
 use Rattle.kdb.specs.Lists.{bit, only, tally, every, any, Each, gather, sum, many, upFrom, pad, same}
 
@@ -365,3 +366,33 @@ getD-pad (suc n) [] zero h = refl
 getD-pad (suc n) [] (suc i) h = getD-pad n [] i (omega arith)
 getD-pad (suc n) (a ∷ ws) zero h = refl
 getD-pad (suc n) (a ∷ ws) (suc i) h = getD-pad n ws i (omega arith)
+-- parts of lists, and the numbers on them
+module _ {ℓ} {A : Type ℓ} where
+  pub every-take : (f : A → Bool) (n : ℕ) (l : List A) → T (every f l) → T (every f (take n l))
+  every-take f zero l t = tt
+  every-take f (suc n) [] t = tt
+  every-take f (suc n) (a ∷ l) t = and-i (f a) _ (and-l (f a) _ t) (every-take f n l (and-r (f a) _ t))
+
+-- a test that every number of the list passes, at a number that stands there
+pub every-many : (f : ℕ → Bool) (l : List ℕ) → T (every f l) → (c : ℕ) → 1 ≤ many c l → T (f c)
+every-many f [] t c h = absurd (omega arith)
+every-many f (a ∷ l) t c h =
+    bool (eqb c a) (λ e. rw (eqb→eq c a e) (and-l (f a) _ t)) (λ e. every-many f l (and-r (f a) _ t) c (omega (arith, ap bit (is-false (eqb c a) e))))
+
+pub pos : (m : ℕ) → T (not (eqb m 0)) → 1 ≤ m
+pos zero h = absurd h
+pos (suc m) h = omega arith
+
+-- beginnings of lists
+module _ {ℓ} {A : Type ℓ} where
+  pub take-past : (m : ℕ) (l k : List A) → length l ≤ m → take m (l ++ k) ≡ l ++ take (m - length l) k
+  take-past m l k h = let e : m ≡ length l + (m - length l) = omega arith in ap (λ n. take n (l ++ k)) e ∙ take-append-add l k (m - length l)
+
+  pub take-less : (m : ℕ) (l k : List A) → take (suc m) l ≡ take (suc m) k → take m l ≡ take m k
+  take-less m l k e = sym (take-take m (suc m) l (omega arith)) ∙ ap (take m) e ∙ take-take m (suc m) k (omega arith)
+
+  -- a list's beginning is no longer than the list's with more behind it
+  pub tally-front : (g : A → Bool) (m : ℕ) (l k : List A) → tally g (take m l) ≤ tally g (take m (l ++ k))
+  tally-front g zero l k = omega arith
+  tally-front g (suc m) [] k = omega arith
+  tally-front g (suc m) (a ∷ l) k = omega (arith, tally-front g m l k)

@@ -1,0 +1,373 @@
+-- Locality of find and list: two pools of one length with the same header and the same pages on the first's walk give the same walk, the
+-- same number and values, and the same answer buffer.
+use mathlib.Core.Bool.{Bool, true, false, _&&_, not, cond}
+use mathlib.Core.List.{List, [], _∷_, _++_}
+use mathlib.Core.Path.{_≡_, refl, sym, ap, ap₂, _∙_, subst}
+use Prim.Native.Nat.{ℕ, zero, suc, _+_, _-_, _*_, _/_, _%_, _<_, _≤_}
+use native.Mathlib.Omega.{arith}
+use lib.Dec.{T, leb, ltb, eqb, leb→le, nleb→lt, ltb→lt, nltb→le}
+use lib.ListN.{length, take, drop, getD, length-take, length-append}
+use lib.Seq.{take-all, take-append-le, getD-take, getD-drop}
+use borrow.Author.Tests.{le-ltb}
+use Rattle.kdb.specs.Lists.{bit, only, every, many}
+use Rattle.kdb.specs.Box.{Box, Key, within, meets, inWindow}
+use Rattle.kdb.specs.Pages.{Ent, Page, blank, recsIn, entsIn, isPoints, isRegions, pointsPer, regionsPer, readPage, page}
+use Rattle.kdb.specs.Pool.{domains, rootAt, levelsAt, pagesIn, view, goodLength, goodHeader}
+use Rattle.kdb.specs.Walk.{Spot, spots, Tour, still, astray, badAt, readAt, follow, through, isPage, goodPoints, goodRegions, tour, bounded, listWalk, End, rootless, bad, absent, here, Search, ends, after, spotOf, into, seek, findWalk}
+use Rattle.kdb.specs.Calls.{Call, format, check, place, remove, find, list, Buffers, Outcome, unless, finding, listing, lent, finite, ordered, outcome, windowOf, begins, walkOf}
+use Rattle.kdb.proofs.Lists.{and-i, bool, cases, is-true, self, tally-front, take-past, take-less, many-append}
+
+-- the walks begin with the same m + 1 pages and, if the first reads no more than m, are the same
+pub record Near (m : ℕ) (a b : Tour) : Type 0 where
+  pub first : take (suc m) (b .read) ≡ take (suc m) (a .read)
+  pub all : length (a .read) ≤ m → b ≡ a
+
+near-refl : (m : ℕ) (a : Tour) → Near m a a
+near-refl m a = record { first = refl; all = λ _. refl }
+
+-- the first m numbers of the list have the property
+abbrev Seen : (ℕ → Type 0) → ℕ → List ℕ → Type 0
+Seen Q m l = (c : ℕ) → 1 ≤ many c (take m l) → Q c
+
+follow-first : (m : ℕ) (a b : Tour) → m ≤ length (a .read) → take m (follow a b .read) ≡ take m (a .read)
+follow-first m a b h =
+    cases (λ z. take m (cond z a (record { read = a .read ++ b .read; bad = b .bad; found = a .found ++ b .found }) .read) ≡ take m (a .read)) (a .bad)
+    (λ _. refl) (λ _. take-append-le m (a .read) (b .read) h)
+
+follow-longer : (a b : Tour) → length (a .read) ≤ length (follow a b .read)
+follow-longer a b =
+    cases (λ z. length (a .read) ≤ length (cond z a (record { read = a .read ++ b .read; bad = b .bad; found = a .found ++ b .found }) .read)) (a .bad)
+    (λ _. omega arith) (λ _. omega (arith, length-append (a .read) (b .read)))
+
+follow-same : (m : ℕ) (a b b′ : Tour) (z : Bool) → length (a .read) ≤ m → (T (not z) → Near (m - length (a .read)) b b′)
+    → Near m (cond z a (record { read = a .read ++ b .read; bad = b .bad; found = a .found ++ b .found }))
+    (cond z a (record { read = a .read ++ b′ .read; bad = b′ .bad; found = a .found ++ b′ .found }))
+follow-same m a b b′ true h n = near-refl m a
+follow-same m a b b′ false h n =
+    let i = n tt in
+    let e : suc m - length (a .read) ≡ suc (m - length (a .read)) = omega arith in
+    record {
+      first = take-past (suc m) (a .read) (b′ .read) (omega arith)
+          ∙ ap (λ l. a .read ++ l) (ap (λ k. take k (b′ .read)) e ∙ i .first ∙ ap (λ k. take k (b .read)) (sym e))
+          ∙ sym (take-past (suc m) (a .read) (b .read) (omega arith));
+      all = λ l. ap (λ t. record { read = a .read ++ t .read; bad = t .bad; found = a .found ++ t .found }) (i .all (omega (arith, length-append (a .read) (b .read))));
+    }
+
+follow-near : (m : ℕ) (a a′ b b′ : Tour) → Near m a a′ → (T (not (a .bad)) → length (a .read) ≤ m → Near (m - length (a .read)) b b′)
+    → Near m (follow a b) (follow a′ b′)
+follow-near m a a′ b b′ n r =
+    bool (leb (length (a .read)) m)
+    (λ t. let h = leb→le (length (a .read)) m t in
+    subst (λ c. Near m (follow a b) (follow c b′)) (sym (n .all h)) (follow-same m a b b′ (a .bad) h (λ o. r o h)))
+    (λ t. let h = nleb→lt (length (a .read)) m t in
+    let k : suc m ≤ length (a′ .read) = omega (arith, ap length (n .first), length-take (suc m) (a .read), length-take (suc m) (a′ .read)) in
+    record {
+      first = follow-first (suc m) a′ b′ k ∙ n .first ∙ sym (follow-first (suc m) a b h);
+      all = λ l. absurd (omega (arith, follow-longer a b));
+    })
+
+module _ (Q : ℕ → Type 0) where
+  seen-front : (m : ℕ) (a b : Tour) → Seen Q m (follow a b .read) → Seen Q m (a .read)
+  seen-front m a b =
+      cases (λ z. Seen Q m (cond z a (record { read = a .read ++ b .read; bad = b .bad; found = a .found ++ b .found }) .read) → Seen Q m (a .read)) (a .bad)
+      (λ _ h. h) (λ _ h c i. h c (omega (arith, tally-front (eqb c) m (a .read) (b .read))))
+
+  seen-back : (m : ℕ) (a b : Tour) → T (not (a .bad)) → length (a .read) ≤ m → Seen Q m (follow a b .read) → Seen Q (m - length (a .read)) (b .read)
+  seen-back m a b =
+      cases (λ z. T (not z) → length (a .read) ≤ m → Seen Q m (cond z a (record { read = a .read ++ b .read; bad = b .bad; found = a .found ++ b .found }) .read)
+      → Seen Q (m - length (a .read)) (b .read)) (a .bad)
+      (λ _ o. absurd o)
+      (λ _ _ l h c i. h c (omega (arith, ap (many c) (take-past m (a .read) (b .read) l), many-append c (a .read) (take (m - length (a .read)) (b .read)))))
+
+  through-near : (f g : ℕ → Tour) (v : Box) → ((c m : ℕ) → Seen Q m (f c .read) → Near m (f c) (g c))
+      → (es : List Ent) (m : ℕ) → Seen Q m (through f v es .read) → Near m (through f v es) (through g v es)
+  through-near f g v i [] m h = near-refl m still
+  through-near f g v i (e ∷ es) m h =
+      let a = cond (meets (e .box) v) (f (e .child)) still in
+      let a′ = cond (meets (e .box) v) (g (e .child)) still in
+      let n : Near m a a′ = cases (λ z. Seen Q m (cond z (f (e .child)) still .read) → Near m (cond z (f (e .child)) still) (cond z (g (e .child)) still)) (meets (e .box) v)
+      (λ _. i (e .child) m) (λ _ _. near-refl m still) (seen-front m a (through f v es) h) in
+      follow-near m a a′ (through f v es) (through g v es) n
+      (λ o l. through-near f g v i es (m - length (a .read)) (seen-back m a (through f v es) o l h))
+
+  -- at one page: if it is among the first m, it is as good in both, and the walks go on alike
+  page-near : (p p′ g g′ : Bool) (j : ℕ) (a a′ : Tour) → p′ ≡ p → (Q j → g′ ≡ g) → ((m : ℕ) → Q j → Seen Q m (a .read) → Near m a a′)
+      → (m : ℕ) → Seen Q m (cond p (cond g (follow (readAt j []) a) (badAt j)) astray .read)
+      → Near m (cond p (cond g (follow (readAt j []) a) (badAt j)) astray) (cond p′ (cond g′ (follow (readAt j []) a′) (badAt j)) astray)
+  page-near p p′ g g′ j a a′ e d i m h =
+      subst (λ q. Near m (cond p (cond g (follow (readAt j []) a) (badAt j)) astray) (cond q (cond g′ (follow (readAt j []) a′) (badAt j)) astray)) (sym e) (go p g g′ d m h)
+    where
+      go : (p g g′ : Bool) → (Q j → g′ ≡ g) → (m : ℕ) → Seen Q m (cond p (cond g (follow (readAt j []) a) (badAt j)) astray .read)
+          → Near m (cond p (cond g (follow (readAt j []) a) (badAt j)) astray) (cond p (cond g′ (follow (readAt j []) a′) (badAt j)) astray)
+      go false g g′ d m h = near-refl m astray
+      go true true true d zero h = record { first = refl; all = λ l. absurd (omega arith) }
+      go true true false d zero h = record { first = refl; all = λ l. absurd (omega arith) }
+      go true false true d zero h = record { first = refl; all = λ l. absurd (omega arith) }
+      go true false false d zero h = near-refl zero (badAt j)
+      go true true g′ d (suc m) h =
+          let q = h j (omega (arith, self j)) in
+          let n = i m q (λ c k. h c (omega arith)) in
+          rw (d q) (record { first = ap (λ l. j ∷ l) (n .first); all = λ l. ap (λ t. follow (readAt j []) t) (n .all (omega arith)) })
+      go true false g′ d (suc m) h = rw (d (h j (omega (arith, self j)))) (near-refl (suc m) (badAt j))
+
+  into-same : (f g : ℕ → Search) (p : Key) → ((c : ℕ) → ((j : ℕ) → 1 ≤ many j (f c .read) → Q j) → g c ≡ f c)
+      → (es : List Ent) → ((j : ℕ) → 1 ≤ many j (into f p es .read) → Q j) → into g p es ≡ into f p es
+  into-same f g p i [] h = refl
+  into-same f g p i (e ∷ es) h =
+      cases (λ z. ((j : ℕ) → 1 ≤ many j (cond z (f (e .child)) (into f p es) .read) → Q j) → cond z (g (e .child)) (into g p es) ≡ cond z (f (e .child)) (into f p es))
+      (within (e .box) p) (λ _. i (e .child)) (λ _. into-same f g p i es) h
+
+  page-same : (p p′ g g′ : Bool) (j : ℕ) (a a′ : Search) → p′ ≡ p → (Q j → g′ ≡ g) → (Q j → ((c : ℕ) → 1 ≤ many c (a .read) → Q c) → a′ ≡ a)
+      → ((c : ℕ) → 1 ≤ many c (cond p (cond g (after j a) (ends (j ∷ []) bad)) (ends [] bad) .read) → Q c)
+      → cond p′ (cond g′ (after j a′) (ends (j ∷ []) bad)) (ends [] bad) ≡ cond p (cond g (after j a) (ends (j ∷ []) bad)) (ends [] bad)
+  page-same p p′ g g′ j a a′ e d i h = rw e (go p g d h)
+    where
+      go : (p g : Bool) → (Q j → g′ ≡ g) → ((c : ℕ) → 1 ≤ many c (cond p (cond g (after j a) (ends (j ∷ []) bad)) (ends [] bad) .read) → Q c)
+          → cond p (cond g′ (after j a′) (ends (j ∷ []) bad)) (ends [] bad) ≡ cond p (cond g (after j a) (ends (j ∷ []) bad)) (ends [] bad)
+      go false g d h = refl
+      go true true d h = let q = h j (omega (arith, self j)) in rw (d q) (ap (after j) (i q (λ c k. h c (omega arith))))
+      go true false d h = rw (d (h j (omega (arith, self j))))
+
+-- two pools of one length and one number of domains
+module _ (L : ℕ) (w w′ : List ℕ) (pp : pagesIn L w′ ≡ pagesIn L w) (dd : domains w′ ≡ domains w) where
+  abbrev Alike : ℕ → Type 0
+  Alike j = view L w′ j ≡ view L w j
+
+  same-page : (j : ℕ) → isPage L w′ j ≡ isPage L w j
+  same-page j = ap (λ n. leb 1 j && ltb j n) pp
+
+  same-points : (j : ℕ) → Alike j → goodPoints L w′ j ≡ goodPoints L w j
+  same-points j e = ap₂ (λ u k. isPoints u && leb (length (recsIn u)) (pointsPer L k)) e dd
+
+  same-regions : (j : ℕ) → Alike j → goodRegions L w′ j ≡ goodRegions L w j
+  same-regions j e = ap₂ (λ u k. isRegions u && leb 1 (length (entsIn u)) && leb (length (entsIn u)) (regionsPer L k)) e dd
+
+  -- the first m + 1 pages of a tour depend on the first m pages alone
+  pub tour-near : (v : Box) (n j m : ℕ) → Seen Alike m (tour L w v n j .read) → Near m (tour L w v n j) (tour L w′ v n j)
+  tour-near v zero j =
+      let here : Page → Tour = λ u. record { read = []; bad = false; found = only (λ s. inWindow v (s .rec .key)) (spots j 0 (recsIn u)) } in
+      page-near Alike (isPage L w j) (isPage L w′ j) (goodPoints L w j) (goodPoints L w′ j) j (here (view L w j)) (here (view L w′ j))
+      (same-page j) (same-points j) (λ m e _. record { first = refl; all = λ _. ap here e })
+  tour-near v (suc n) j =
+      page-near Alike (isPage L w j) (isPage L w′ j) (goodRegions L w j) (goodRegions L w′ j) j
+      (through (tour L w v n) v (entsIn (view L w j))) (through (tour L w′ v n) v (entsIn (view L w′ j))) (same-page j) (same-regions j)
+      (λ m e s. subst (λ u. Near m (through (tour L w v n) v (entsIn (view L w j))) (through (tour L w′ v n) v (entsIn u))) (sym e)
+      (through-near Alike (tour L w v n) (tour L w′ v n) v (λ c m. tour-near v n c m) (entsIn (view L w j)) m s))
+
+  pub seek-same : (p : Key) (n j : ℕ) → ((c : ℕ) → 1 ≤ many c (seek L w p n j .read) → Alike c) → seek L w′ p n j ≡ seek L w p n j
+  seek-same p zero j =
+      let here : Page → Search = λ u. ends [] (spotOf j p (spots j 0 (recsIn u))) in
+      page-same Alike (isPage L w j) (isPage L w′ j) (goodPoints L w j) (goodPoints L w′ j) j (here (view L w j)) (here (view L w′ j))
+      (same-page j) (same-points j) (λ e _. ap here e)
+  seek-same p (suc n) j =
+      page-same Alike (isPage L w j) (isPage L w′ j) (goodRegions L w j) (goodRegions L w′ j) j
+      (into (seek L w p n) p (entsIn (view L w j))) (into (seek L w′ p n) p (entsIn (view L w′ j))) (same-page j) (same-regions j)
+      (λ e s. ap (λ u. into (seek L w′ p n) p (entsIn u)) e ∙ into-same Alike (seek L w p n) (seek L w′ p n) p (seek-same p n) (entsIn (view L w j)) s)
+
+-- the bound: walks that begin alike are stopped alike
+bounded-near : (L : ℕ) (w w′ : List ℕ) (N : ℕ) (t t′ : Tour) → Near (N - 1) t t′ → bounded L w′ N t′ ≡ bounded L w N t
+bounded-near L w w′ N t t′ n =
+    let stop : Tour → Tour = λ t. record { read = take (N - 1) (t .read); bad = true; found = [] } in
+    cases (λ z. cond (ltb (length (t′ .read)) N) t′ (stop t′) ≡ cond z t (stop t)) (ltb (length (t .read)) N)
+    (λ h. let l = ltb→lt (length (t .read)) N h in
+    let e = n .all (omega arith) in
+    ap (λ t. cond (ltb (length (t .read)) N) t (stop t)) e ∙ rw (is-true (ltb (length (t .read)) N) h))
+    (λ h. let l = nltb→le (length (t .read)) N h in
+    let k : N ≤ length (t′ .read) = omega (arith, ap length (n .first), length-take (suc (N - 1)) (t .read), length-take (suc (N - 1)) (t′ .read)) in
+    rw (le-ltb (length (t′ .read)) N k) (ap (λ l. record { read = l; bad = true; found = [] }) (take-less (N - 1) (t′ .read) (t .read) (n .first))))
+
+bounded-seen : (Q : ℕ → Type 0) (L : ℕ) (w : List ℕ) (N : ℕ) (t : Tour) → ((j : ℕ) → 1 ≤ many j (bounded L w N t .read) → Q j) → Seen Q (N - 1) (t .read)
+bounded-seen Q L w N t =
+    cases (λ z. ((j : ℕ) → 1 ≤ many j (cond z t (record { read = take (N - 1) (t .read); bad = true; found = [] }) .read) → Q j) → Seen Q (N - 1) (t .read)) (ltb (length (t .read)) N)
+    (λ h q j i. let l = ltb→lt (length (t .read)) N h in q j (rw (take-all (N - 1) (t .read) (omega arith)) at i)) (λ _ q. q)
+
+-- the words of page 0 are the pool's first
+header-word : (L : ℕ) (w : List ℕ) (i : ℕ) → i < L → getD (page L w 0) i 0 ≡ getD w i 0
+header-word L w i h = let e : L * 0 + i ≡ i = omega arith in getD-take L (drop (L * 0) w) i 0 h ∙ getD-drop (L * 0) w i 0 ∙ ap (λ n. getD w n 0) e
+
+-- two pools of one length, with the same header and the same pages of a list
+pub record Agree (L : ℕ) (w w′ : List ℕ) (read : List ℕ) : Type 0 where
+  pub long : length w′ ≡ length w
+  pub header : page L w′ 0 ≡ page L w 0
+  pub pages : (j : ℕ) → 1 ≤ many j read → page L w′ j ≡ page L w j
+
+module _ (L : ℕ) (four : 4 ≤ L) (w w′ : List ℕ) where
+  agree-word : (read : List ℕ) → Agree L w w′ read → (i : ℕ) → i < 4 → getD w′ i 0 ≡ getD w i 0
+  agree-word read a i h = sym (header-word L w′ i (omega arith)) ∙ ap (λ l. getD l i 0) (a .header) ∙ header-word L w i (omega arith)
+
+  agree-view : (read : List ℕ) → Agree L w w′ read → (j : ℕ) → 1 ≤ many j read → view L w′ j ≡ view L w j
+  agree-view read a j h =
+      ap (λ n. cond (leb 1 j && ltb j (n / L)) (readPage (domains w′) (page L w′ j)) blank) (a .long)
+      ∙ ap₂ (λ k u. cond (leb 1 j && ltb j (pagesIn L w)) (readPage k u) blank) (agree-word read a 0 (omega arith)) (a .pages j h)
+
+  pub list-same : (v : Box) → Agree L w w′ (listWalk L w v .read) → listWalk L w′ v ≡ listWalk L w v
+  list-same v a =
+      let N = pagesIn L w in
+      let pp : pagesIn L w′ ≡ N = ap (λ n. n / L) (a .long) in
+      let word = agree-word (listWalk L w v .read) a in
+      let t : ℕ → ℕ → Tour = tour L w′ v in
+      let to : listWalk L w′ v ≡ cond (eqb (levelsAt w) 0) still (bounded L w′ N (t (levelsAt w - 1) (rootAt w))) =
+      ap (λ n. cond (eqb (levelsAt w′) 0) still (bounded L w′ n (t (levelsAt w′ - 1) (rootAt w′)))) pp
+      ∙ ap₂ (λ l r. cond (eqb l 0) still (bounded L w′ N (t (l - 1) r))) (word 3 (omega arith)) (word 2 (omega arith)) in
+      to ∙ cases (λ z. ((j : ℕ) → 1 ≤ many j (cond z still (bounded L w N (tour L w v (levelsAt w - 1) (rootAt w))) .read) → view L w′ j ≡ view L w j)
+      → cond z still (bounded L w′ N (t (levelsAt w - 1) (rootAt w))) ≡ cond z still (bounded L w N (tour L w v (levelsAt w - 1) (rootAt w)))) (eqb (levelsAt w) 0)
+      (λ _ _. refl)
+      (λ _ s. bounded-near L w w′ N _ _ (tour-near L w w′ pp (word 0 (omega arith)) v (levelsAt w - 1) (rootAt w) (N - 1)
+      (bounded-seen (λ j. view L w′ j ≡ view L w j) L w N (tour L w v (levelsAt w - 1) (rootAt w)) s)))
+      (agree-view (listWalk L w v .read) a)
+
+  pub find-same : (p : Key) → Agree L w w′ (findWalk L w p .read) → findWalk L w′ p ≡ findWalk L w p
+  find-same p a =
+      let pp : pagesIn L w′ ≡ pagesIn L w = ap (λ n. n / L) (a .long) in
+      let word = agree-word (findWalk L w p .read) a in
+      let s : ℕ → ℕ → Search = seek L w′ p in
+      ap₂ (λ l r. cond (eqb l 0) (ends [] rootless) (s (l - 1) r)) (word 3 (omega arith)) (word 2 (omega arith))
+      ∙ cases (λ z. ((j : ℕ) → 1 ≤ many j (cond z (ends [] rootless) (seek L w p (levelsAt w - 1) (rootAt w)) .read) → view L w′ j ≡ view L w j)
+      → cond z (ends [] rootless) (s (levelsAt w - 1) (rootAt w)) ≡ cond z (ends [] rootless) (seek L w p (levelsAt w - 1) (rootAt w))) (eqb (levelsAt w) 0)
+      (λ _ _. refl) (λ _. seek-same L w w′ pp (word 0 (omega arith)) p (levelsAt w - 1) (rootAt w))
+      (agree-view (findWalk L w p .read) a)
+
+-- the tests that a call makes before its walk look at nothing but length and header
+same-length : (L : ℕ) (w w′ : List ℕ) → length w′ ≡ length w → goodLength L w′ ≡ goodLength L w
+unfolding goodLength
+same-length L w w′ e = ap (λ n. eqb (n % L) 0 && leb 2 (n / L) && leb (n / L) 512) e
+
+same-header : (L : ℕ) (w w′ : List ℕ) → length w′ ≡ length w → page L w′ 0 ≡ page L w 0 → ((i : ℕ) → i < 4 → getD w′ i 0 ≡ getD w i 0) → goodHeader L w′ ≡ goodHeader L w
+unfolding goodHeader
+same-header L w w′ l h f =
+    let e : domains w′ ≡ domains w = f 0 (omega arith) in
+    let e1 : getD w′ 1 0 ≡ getD w 1 0 = f 1 (omega arith) in
+    let e2 : rootAt w′ ≡ rootAt w = f 2 (omega arith) in
+    let e3 : levelsAt w′ ≡ levelsAt w = f 3 (omega arith) in
+    rw (h, l, e, e1, e2, e3)
+
+-- the same number, the same values, the same answer buffer
+pub record Told (o o′ : Outcome) : Type 0 where
+  pub number : o′ .number ≡ o .number
+  pub values : o′ .values ≡ o .values
+  pub answer : o′ .after .answer ≡ o .after .answer
+
+unless-told : (a a′ : Bool) (n : ℕ) (b b′ : Buffers) (o o′ : Outcome) → a′ ≡ a → b′ .answer ≡ b .answer → (T a → Told o o′) → Told (unless a n b o) (unless a′ n b′ o′)
+unless-told a a′ n b b′ o o′ e d f = rw e (go a f)
+  where
+    go : (a : Bool) → (T a → Told o o′) → Told (unless a n b o) (unless a n b′ o′)
+    go true f = f tt
+    go false f = record { number = refl; values = refl; answer = d }
+
+finding-told : (read : List ℕ) (e : End) (b b′ : Buffers) → b′ .answer ≡ b .answer → Told (finding (ends read e) b) (finding (ends read e) b′)
+finding-told read rootless b b′ d = record { number = refl; values = refl; answer = d }
+finding-told read bad b b′ d = record { number = refl; values = refl; answer = d }
+finding-told read (absent j) b b′ d = record { number = refl; values = refl; answer = d }
+finding-told read (here s) b b′ d = record { number = refl; values = refl; answer = d }
+
+listing-told : (read : List ℕ) (z : Bool) (found : List Spot) (w w′ answer : List ℕ)
+    → Told (listing (record { read = read; bad = z; found = found }) w answer) (listing (record { read = read; bad = z; found = found }) w′ answer)
+listing-told read true found w w′ answer = record { number = refl; values = refl; answer = refl }
+listing-told read false found w w′ answer = record { number = refl; values = refl; answer = refl }
+
+-- the calls that have a walk
+abbrev pub walks : Call → Bool
+walks (format k) = false
+walks check = false
+walks (place work p l) = false
+walks (remove p) = false
+walks (find p) = true
+walks (list v answer) = true
+
+module _ (w w′ : List ℕ) where
+  -- the pages of a walk that begins
+  begun : (b : Bool) (read : List ℕ) → T b → Agree 32 w w′ (cond b read []) → Agree 32 w w′ read
+  begun true read t a = a
+  begun false read t a = absurd t
+
+  module _ (read : List ℕ) (a : Agree 32 w w′ read) where
+    word : (i : ℕ) → i < 4 → getD w′ i 0 ≡ getD w i 0
+    word = agree-word 32 (omega arith) w w′ read a
+
+    long-same : goodLength 32 w′ ≡ goodLength 32 w
+    long-same = same-length 32 w w′ (a .long)
+
+    header-same : goodHeader 32 w′ ≡ goodHeader 32 w
+    header-same = same-header 32 w w′ (a .long) (a .header) word
+
+    domains-same : domains w′ ≡ domains w
+    domains-same = word 0 (omega arith)
+
+  begins-same : (c : Call) → Agree 32 w w′ (walkOf w c) → begins w′ c ≡ begins w c
+  begins-same (format k) a = refl
+  begins-same check a = refl
+  begins-same (place work p l) a = refl
+  begins-same (remove p) a = refl
+  begins-same (find p) a =
+      let r = walkOf w (find p) in
+      ap₂ (λ x y. x && y && eqb (length p) (domains w′) && finite p) (long-same r a) (header-same r a)
+      ∙ ap (λ k. goodLength 32 w && goodHeader 32 w && eqb (length p) k && finite p) (domains-same r a)
+  begins-same (list v answer) a =
+      let r = walkOf w (list v answer) in
+      ap₂ (λ x y. x && y && eqb (length v) (2 * domains w′) && finite v && ordered (windowOf (domains w′) v)) (long-same r a) (header-same r a)
+      ∙ ap (λ k. goodLength 32 w && goodHeader 32 w && eqb (length v) (2 * k) && finite v && ordered (windowOf k v)) (domains-same r a)
+
+  found-same : (p : Key) → T (begins w (find p)) → Agree 32 w w′ (walkOf w (find p)) → findWalk 32 w′ p ≡ findWalk 32 w p
+  found-same p t a = find-same 32 (omega arith) w w′ p (begun (begins w (find p)) _ t a)
+
+  listed-same : (v answer : List ℕ) → T (begins w (list v answer)) → Agree 32 w w′ (walkOf w (list v answer))
+      → listWalk 32 w′ (windowOf (domains w′) v) ≡ listWalk 32 w (windowOf (domains w) v)
+  listed-same v answer t a =
+      ap (λ k. listWalk 32 w′ (windowOf k v)) (domains-same (walkOf w (list v answer)) a)
+      ∙ list-same 32 (omega arith) w w′ (windowOf (domains w) v) (begun (begins w (list v answer)) _ t a)
+
+  -- the walk depends on length, header and the pages of the walk alone
+  pub walk-local : (c : Call) → Agree 32 w w′ (walkOf w c) → walkOf w′ c ≡ walkOf w c
+  walk-local (format k) a = refl
+  walk-local check a = refl
+  walk-local (place work p l) a = refl
+  walk-local (remove p) a = refl
+  walk-local (find p) a =
+      ap (λ b. cond b (findWalk 32 w′ p .read) []) (begins-same (find p) a)
+      ∙ cases (λ b. (T b → findWalk 32 w′ p ≡ findWalk 32 w p) → cond b (findWalk 32 w′ p .read) [] ≡ cond b (findWalk 32 w p .read) []) (begins w (find p))
+      (λ _ f. ap (λ s. s .read) (f tt)) (λ _ _. refl) (λ t. found-same p t a)
+  walk-local (list v answer) a =
+      let t′ = listWalk 32 w′ (windowOf (domains w′) v) in
+      let t = listWalk 32 w (windowOf (domains w) v) in
+      ap (λ b. cond b (t′ .read) []) (begins-same (list v answer) a)
+      ∙ cases (λ b. (T b → t′ ≡ t) → cond b (t′ .read) [] ≡ cond b (t .read) []) (begins w (list v answer))
+      (λ _ f. ap (λ s. s .read) (f tt)) (λ _ _. refl) (λ h. listed-same v answer h a)
+
+  -- and so do the number, the values and the answer buffer
+  pub told-local : (c : Call) → T (walks c) → Agree 32 w w′ (walkOf w c) → Told (outcome w c) (outcome w′ c)
+  unfolding outcome
+  told-local (format k) t a = absurd t
+  told-local check t a = absurd t
+  told-local (place work p l) t a = absurd t
+  told-local (remove p) t a = absurd t
+  told-local (find p) t a =
+      let r = walkOf w (find p) in
+      let b = lent w (find p) in
+      let b′ = lent w′ (find p) in
+      let g = goodLength 32 w in
+      let h = goodHeader 32 w in
+      let k = eqb (length p) (domains w) in
+      unless-told g _ 1 b b′ _ _ (long-same r a) refl (λ t1.
+      unless-told h _ 6 b b′ _ _ (header-same r a) refl (λ t2.
+      unless-told k _ 3 b b′ _ _ (ap (λ k. eqb (length p) k) (domains-same r a)) refl (λ t3.
+      unless-told (finite p) _ 4 b b′ _ _ refl refl (λ t4.
+      subst (λ s. Told (finding (findWalk 32 w p) b) (finding s b′))
+      (sym (found-same p (and-i (g && h && k) (finite p) (and-i (g && h) k (and-i g h t1 t2) t3) t4) a))
+      (finding-told (findWalk 32 w p .read) (findWalk 32 w p .end) b b′ refl)))))
+  told-local (list v answer) t a =
+      let r = walkOf w (list v answer) in
+      let b = lent w (list v answer) in
+      let b′ = lent w′ (list v answer) in
+      let g = goodLength 32 w in
+      let h = goodHeader 32 w in
+      let k = eqb (length v) (2 * domains w) in
+      let o = ordered (windowOf (domains w) v) in
+      let s = listWalk 32 w (windowOf (domains w) v) in
+      unless-told g _ 1 b b′ _ _ (long-same r a) refl (λ t1.
+      unless-told h _ 6 b b′ _ _ (header-same r a) refl (λ t2.
+      unless-told k _ 3 b b′ _ _ (ap (λ k. eqb (length v) (2 * k)) (domains-same r a)) refl (λ t3.
+      unless-told (finite v) _ 4 b b′ _ _ refl refl (λ t4.
+      unless-told o _ 5 b b′ _ _ (ap (λ k. ordered (windowOf k v)) (domains-same r a)) refl (λ t5.
+      subst (λ s′. Told (listing s w answer) (listing s′ w′ answer))
+      (sym (listed-same v answer (and-i (g && h && k && finite v) o (and-i (g && h && k) (finite v) (and-i (g && h) k (and-i g h t1 t2) t3) t4) t5) a))
+      (listing-told (s .read) (s .bad) (s .found) w w′ answer))))))

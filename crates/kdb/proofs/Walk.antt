@@ -1,0 +1,180 @@
+-- The walks of find and list over any words: no walk is longer than N − 1 and reads anything but pages of 1 to N − 1, and the count that
+-- a call returns is its walk's length.
+use mathlib.Core.Bool.{Bool, true, false, _&&_, cond}
+use mathlib.Core.List.{List, [], _∷_, _++_}
+use mathlib.Core.Path.{_≡_, refl}
+use Prim.Native.Nat.{ℕ, zero, suc, _+_, _-_, _*_, _<_, _≤_}
+use native.Mathlib.Omega.{arith}
+use lib.Dec.{T, leb, ltb, eqb, leb→le, ltb→lt}
+use lib.ListN.{length, take, getD, length-take}
+use borrow.Author.Tests.{ne-eqb}
+use Rattle.kdb.specs.Lists.{bit, every, many}
+use Rattle.kdb.specs.Box.{Box, Key, within, meets}
+use Rattle.kdb.specs.Pages.{Ent, entsIn}
+use Rattle.kdb.specs.Pool.{domains, rootAt, levelsAt, pagesIn, view, goodLength, goodHeader}
+use Rattle.kdb.specs.Walk.{Spot, Tour, still, readAt, follow, through, isPage, goodPoints, goodRegions, tour, bounded, listWalk, End, rootless, bad, absent, here, Search, ends, into, seek, findWalk}
+use Rattle.kdb.specs.Calls.{Call, format, check, place, remove, find, list, Buffers, Outcome, unless, finding, listing, filled, lent, finite, ordered, outcome, windowOf, begins, walkOf}
+use Rattle.kdb.proofs.Lists.{and-l, and-r, and-i, bool, cases, every-append, every-take, every-many, pos}
+
+-- the length of a walk into entries
+into-length : (below : ℕ → Search) (p : Key) (m : ℕ) → ((c : ℕ) → length (below c .read) ≤ m) → (es : List Ent) → length (into below p es .read) ≤ m
+into-length below p m h [] = omega arith
+into-length below p m h (e ∷ es) =
+    cases (λ b. length (cond b (below (e .child)) (into below p es) .read) ≤ m) (within (e .box) p) (λ _. h (e .child)) (λ _. into-length below p m h es)
+
+-- a test that holds of all pages read by two walks holds of those read by one after the other
+follow-every : (f : ℕ → Bool) (a b : Tour) → T (every f (a .read)) → T (every f (b .read)) → T (every f (follow a b .read))
+follow-every f a b s t =
+    cases (λ z. T (every f (cond z a (record { read = a .read ++ b .read; bad = b .bad; found = a .found ++ b .found }) .read))) (a .bad)
+    (λ _. s) (λ _. every-append f (a .read) (b .read) s t)
+
+through-every : (f : ℕ → Bool) (below : ℕ → Tour) (v : Box) → ((c : ℕ) → T (every f (below c .read))) → (es : List Ent) → T (every f (through below v es .read))
+through-every f below v h [] = tt
+through-every f below v h (e ∷ es) =
+    follow-every f (cond (meets (e .box) v) (below (e .child)) still) (through below v es)
+    (cases (λ b. T (every f (cond b (below (e .child)) still .read))) (meets (e .box) v) (λ _. h (e .child)) (λ _. tt)) (through-every f below v h es)
+
+into-every : (f : ℕ → Bool) (below : ℕ → Search) (p : Key) → ((c : ℕ) → T (every f (below c .read))) → (es : List Ent) → T (every f (into below p es .read))
+into-every f below p h [] = tt
+into-every f below p h (e ∷ es) =
+    cases (λ b. T (every f (cond b (below (e .child)) (into below p es) .read))) (within (e .box) p) (λ _. h (e .child)) (λ _. into-every f below p h es)
+
+-- at a page of the pool and elsewhere; at a good page and at a bad one
+at-page : {A : Type 0} (P : A → Type 0) (page good : Bool) (x y z : A) → (T page → P x) → (T page → P y) → P z → P (cond page (cond good x y) z)
+at-page P false good x y z f g h = h
+at-page P true true x y z f g h = f tt
+at-page P true false x y z f g h = g tt
+
+module _ (L : ℕ) (w : List ℕ) where
+  pub bounded-length : (N : ℕ) (t : Tour) → length (bounded L w N t .read) ≤ N - 1
+  bounded-length N t =
+      cases (λ b. length (cond b t (record { read = take (N - 1) (t .read); bad = true; found = [] }) .read) ≤ N - 1) (ltb (length (t .read)) N)
+      (λ h. omega (arith, ltb→lt (length (t .read)) N h)) (λ _. omega (arith, length-take (N - 1) (t .read)))
+
+  pub list-length : (v : Box) → length (listWalk L w v .read) ≤ pagesIn L w - 1
+  list-length v =
+      cases (λ b. length (cond b still (bounded L w (pagesIn L w) (tour L w v (levelsAt w - 1) (rootAt w))) .read) ≤ pagesIn L w - 1) (eqb (levelsAt w) 0)
+      (λ _. omega arith) (λ _. bounded-length (pagesIn L w) (tour L w v (levelsAt w - 1) (rootAt w)))
+
+  pub seek-length : (p : Key) (n j : ℕ) → length (seek L w p n j .read) ≤ n + 1
+  seek-length p zero j = at-page (λ (s : Search). length (s .read) ≤ 0 + 1) (isPage L w j) (goodPoints L w j) _ _ _ (λ _. omega arith) (λ _. omega arith) (omega arith)
+  seek-length p (suc n) j =
+      at-page (λ (s : Search). length (s .read) ≤ suc n + 1) (isPage L w j) (goodRegions L w j) _ _ _
+      (λ _. omega (arith, into-length (seek L w p n) p (n + 1) (seek-length p n) (entsIn (view L w j)))) (λ _. omega arith) (omega arith)
+
+  pub find-length : (p : Key) → length (findWalk L w p .read) ≤ levelsAt w
+  find-length p =
+      cases (λ b. length (cond b (ends [] rootless) (seek L w p (levelsAt w - 1) (rootAt w)) .read) ≤ levelsAt w) (eqb (levelsAt w) 0)
+      (λ _. omega arith) (λ h. omega (arith, pos (levelsAt w) h, seek-length p (levelsAt w - 1) (rootAt w)))
+
+  tour-pages : (v : Box) (n j : ℕ) → T (every (isPage L w) (tour L w v n j .read))
+  tour-pages v zero j =
+      at-page (λ (t : Tour). T (every (isPage L w) (t .read))) (isPage L w j) (goodPoints L w j) _ _ _ (λ h. and-i (isPage L w j) true h tt) (λ h. and-i (isPage L w j) true h tt) tt
+  tour-pages v (suc n) j =
+      at-page (λ (t : Tour). T (every (isPage L w) (t .read))) (isPage L w j) (goodRegions L w j) _ _ _
+      (λ h. and-i (isPage L w j) _ h (through-every (isPage L w) (tour L w v n) v (tour-pages v n) (entsIn (view L w j)))) (λ h. and-i (isPage L w j) true h tt) tt
+
+  seek-pages : (p : Key) (n j : ℕ) → T (every (isPage L w) (seek L w p n j .read))
+  seek-pages p zero j =
+      at-page (λ (t : Search). T (every (isPage L w) (t .read))) (isPage L w j) (goodPoints L w j) _ _ _ (λ h. and-i (isPage L w j) true h tt) (λ h. and-i (isPage L w j) true h tt) tt
+  seek-pages p (suc n) j =
+      at-page (λ (t : Search). T (every (isPage L w) (t .read))) (isPage L w j) (goodRegions L w j) _ _ _
+      (λ h. and-i (isPage L w j) _ h (into-every (isPage L w) (seek L w p n) p (seek-pages p n) (entsIn (view L w j)))) (λ h. and-i (isPage L w j) true h tt) tt
+
+  list-pages : (v : Box) → T (every (isPage L w) (listWalk L w v .read))
+  list-pages v =
+      let N = pagesIn L w in
+      let t = tour L w v (levelsAt w - 1) (rootAt w) in
+      let h = tour-pages v (levelsAt w - 1) (rootAt w) in
+      cases (λ b. T (every (isPage L w) (cond b still (bounded L w N t) .read))) (eqb (levelsAt w) 0) (λ _. tt)
+      (λ _. cases (λ b. T (every (isPage L w) (cond b t (record { read = take (N - 1) (t .read); bad = true; found = [] }) .read))) (ltb (length (t .read)) N)
+      (λ _. h) (λ _. every-take (isPage L w) (N - 1) (t .read) h))
+
+  find-pages : (p : Key) → T (every (isPage L w) (findWalk L w p .read))
+  find-pages p =
+      cases (λ b. T (every (isPage L w) (cond b (ends [] rootless) (seek L w p (levelsAt w - 1) (rootAt w)) .read))) (eqb (levelsAt w) 0)
+      (λ _. tt) (λ _. seek-pages p (levelsAt w - 1) (rootAt w))
+
+-- a good header's levels are at most N − 1
+pub few-levels : (L : ℕ) (w : List ℕ) → T (goodHeader L w) → levelsAt w ≤ pagesIn L w - 1
+unfolding goodHeader
+few-levels L w h =
+    let below = leb 1 (domains w) && leb (domains w) 4 && eqb (getD w 1 0) (pagesIn L w) && ltb (rootAt w) (pagesIn L w) in
+    let few = leb (levelsAt w) (pagesIn L w - 1) in
+    let both = eqb (bit (eqb (rootAt w) 0)) (bit (eqb (levelsAt w) 0)) in
+    leb→le (levelsAt w) (pagesIn L w - 1) (and-r below few (and-l (below && few) both (and-l (below && few && both) _ h)))
+
+-- no walk is longer than N − 1, on any words
+pub walk-bound : (w : List ℕ) (c : Call) → length (walkOf w c) ≤ pagesIn 32 w - 1
+walk-bound w (format k) = omega arith
+walk-bound w check = omega arith
+walk-bound w (place work p l) = omega arith
+walk-bound w (remove p) = omega arith
+walk-bound w (find p) =
+    cases (λ b. length (cond b (findWalk 32 w p .read) []) ≤ pagesIn 32 w - 1) (begins w (find p))
+    (λ h. omega (arith, find-length 32 w p, few-levels 32 w (and-r (goodLength 32 w) _ (and-l (goodLength 32 w && goodHeader 32 w) _ (and-l (goodLength 32 w && goodHeader 32 w && eqb (length p) (domains w)) _ h))))) (λ _. omega arith)
+walk-bound w (list v answer) =
+    cases (λ b. length (cond b (listWalk 32 w (windowOf (domains w) v) .read) []) ≤ pagesIn 32 w - 1) (begins w (list v answer))
+    (λ _. list-length 32 w (windowOf (domains w) v)) (λ _. omega arith)
+
+-- every number on a walk is a page's
+walk-every : (w : List ℕ) (c : Call) → T (every (isPage 32 w) (walkOf w c))
+walk-every w (format k) = tt
+walk-every w check = tt
+walk-every w (place work p l) = tt
+walk-every w (remove p) = tt
+walk-every w (find p) =
+    cases (λ b. T (every (isPage 32 w) (cond b (findWalk 32 w p .read) []))) (begins w (find p)) (λ _. find-pages 32 w p) (λ _. tt)
+walk-every w (list v answer) =
+    cases (λ b. T (every (isPage 32 w) (cond b (listWalk 32 w (windowOf (domains w) v) .read) []))) (begins w (list v answer))
+    (λ _. list-pages 32 w (windowOf (domains w) v)) (λ _. tt)
+
+pub page-e : (L : ℕ) (w : List ℕ) (j : ℕ) → T (isPage L w j) → (1 ≤ j) × (j < pagesIn L w)
+page-e L w j h = (leb→le 1 j (and-l (leb 1 j) _ h), ltb→lt j (pagesIn L w) (and-r (leb 1 j) _ h))
+
+pub walk-pages : (w : List ℕ) (c : Call) (j : ℕ) → 1 ≤ many j (walkOf w c) → (1 ≤ j) × (j < pagesIn 32 w)
+walk-pages w c j h = page-e 32 w j (every-many (isPage 32 w) (walkOf w c) (walk-every w c) j h)
+
+-- a find that is done has found a record, and returns its location and the walk's length
+pub find-returns : (w p : List ℕ) → outcome w (find p) .number ≡ 0
+    → (x : Spot) × (findWalk 32 w p .end ≡ here x) × (outcome w (find p) .values ≡ x .rec .loc ∷ length (walkOf w (find p)) ∷ [])
+unfolding outcome
+find-returns w p z = go (goodLength 32 w) (goodHeader 32 w) (eqb (length p) (domains w)) (finite p) (findWalk 32 w p .read) (findWalk 32 w p .end) (lent w (find p)) z
+  where
+    go : (a b c d : Bool) (read : List ℕ) (e : End) (bs : Buffers)
+        → unless a 1 bs (unless b 6 bs (unless c 3 bs (unless d 4 bs (finding (ends read e) bs)))) .number ≡ 0
+        → (x : Spot) × (e ≡ here x)
+        × (unless a 1 bs (unless b 6 bs (unless c 3 bs (unless d 4 bs (finding (ends read e) bs)))) .values ≡ x .rec .loc ∷ length (cond (a && b && c && d) read []) ∷ [])
+    go false b c d read e bs z = absurd (omega arith)
+    go true false c d read e bs z = absurd (omega arith)
+    go true true false d read e bs z = absurd (omega arith)
+    go true true true false read e bs z = absurd (omega arith)
+    go true true true true read rootless bs z = absurd (omega arith)
+    go true true true true read bad bs z = absurd (omega arith)
+    go true true true true read (absent j) bs z = absurd (omega arith)
+    go true true true true read (here x) bs z = (x, refl, refl)
+
+-- a list that is done met no bad page, and returns the total found and the walk's length
+pub list-returns : (w v answer : List ℕ) → outcome w (list v answer) .number ≡ 0
+    → (listWalk 32 w (windowOf (domains w) v) .bad ≡ false)
+    × (outcome w (list v answer) .values ≡ length (listWalk 32 w (windowOf (domains w) v) .found) ∷ length (walkOf w (list v answer)) ∷ [])
+    × (outcome w (list v answer) .after .answer ≡ filled answer (listWalk 32 w (windowOf (domains w) v) .found))
+unfolding outcome
+list-returns w v answer z =
+    let t = listWalk 32 w (windowOf (domains w) v) in
+    go (goodLength 32 w) (goodHeader 32 w) (eqb (length v) (2 * domains w)) (finite v) (ordered (windowOf (domains w) v)) (t .read) (t .bad) (t .found) (lent w (list v answer)) z
+  where
+    go : (a b c d e : Bool) (read : List ℕ) (z : Bool) (found : List Spot) (bs : Buffers)
+        → unless a 1 bs (unless b 6 bs (unless c 3 bs (unless d 4 bs (unless e 5 bs (listing (record { read = read; bad = z; found = found }) w answer))))) .number ≡ 0
+        → (z ≡ false)
+        × (unless a 1 bs (unless b 6 bs (unless c 3 bs (unless d 4 bs (unless e 5 bs (listing (record { read = read; bad = z; found = found }) w answer))))) .values
+        ≡ length found ∷ length (cond (a && b && c && d && e) read []) ∷ [])
+        × (unless a 1 bs (unless b 6 bs (unless c 3 bs (unless d 4 bs (unless e 5 bs (listing (record { read = read; bad = z; found = found }) w answer))))) .after .answer
+        ≡ filled answer found)
+    go false b c d e read z found bs q = absurd (omega arith)
+    go true false c d e read z found bs q = absurd (omega arith)
+    go true true false d e read z found bs q = absurd (omega arith)
+    go true true true false e read z found bs q = absurd (omega arith)
+    go true true true true false read z found bs q = absurd (omega arith)
+    go true true true true true read true found bs q = absurd (omega arith)
+    go true true true true true read false found bs q = (refl, refl, refl)
