@@ -6,7 +6,6 @@ pub mod Stands
 pub mod Calls
 pub mod Pages
 pub mod Views
-pub mod Stands
 pub mod Print
 pub mod Walk
 pub mod Local

@@ -6,7 +6,6 @@ use Prim.Native.Nat.{ℕ, zero, suc, _+_, _-_, _*_, _<_, _≤_, min}
 use native.Mathlib.Omega.{arith}
 use lib.Dec.{T, leb, ltb, eqb, leb→le, le→leb, ltb→lt, lt→ltb, nleb→lt, nltb→le, eqb→eq, eqb-refl, T-not}
 use native.Mathlib.Nat.{zero-mul, suc-mul}
-use lib.Dec.{T, T-not, leb, ltb, eqb, leb→le, le→leb, ltb→lt, lt→ltb, nleb→lt, nltb→le, eqb→eq, eqb-refl}
 use lib.ListN.{length, take, drop, getD, length-append}
 use lib.Seq.{take-append-add, take-take}
 use borrow.Author.Tests.{eq-eqb, ne-eqb}
@@ -253,6 +252,7 @@ module _ {ℓ} {A : Type ℓ} where
 pub tally-map {ℓ κ} : {A : Type ℓ} {B : Type κ} (g : B → Bool) (f : A → B) (l : List A) → tally g (map f l) ≡ tally (λ a. g (f a)) l
 tally-map g f [] = refl
 tally-map g f (a ∷ l) = ap (λ n. bit (g (f a)) + n) (tally-map g f l)
+
 -- reading and printing: properties of each element, padded words, sums over the numbers from a on
 module _ {ℓ} {A : Type ℓ} where
   pub each-map : (P Q : A → Type 0) (l : List A) → ((a : A) → P a → Q a) → Each P l → Each Q l
@@ -366,6 +366,7 @@ getD-pad (suc n) [] zero h = refl
 getD-pad (suc n) [] (suc i) h = getD-pad n [] i (omega arith)
 getD-pad (suc n) (a ∷ ws) zero h = refl
 getD-pad (suc n) (a ∷ ws) (suc i) h = getD-pad n ws i (omega arith)
+
 -- parts of lists, and the numbers on them
 module _ {ℓ} {A : Type ℓ} where
   pub every-take : (f : A → Bool) (n : ℕ) (l : List A) → T (every f l) → T (every f (take n l))

@@ -14,7 +14,7 @@ use Rattle.kdb.specs.Box.{Box, Key, within, meets, inWindow}
 use Rattle.kdb.specs.Pages.{Ent, Page, blank, recsIn, entsIn, isPoints, isRegions, pointsPer, regionsPer, readPage, page}
 use Rattle.kdb.specs.Pool.{domains, rootAt, levelsAt, pagesIn, view, goodLength, goodHeader}
 use Rattle.kdb.specs.Walk.{Spot, spots, Tour, still, astray, badAt, readAt, follow, through, isPage, goodPoints, goodRegions, tour, bounded, listWalk, End, rootless, bad, absent, here, Search, ends, after, spotOf, into, seek, findWalk}
-use Rattle.kdb.specs.Calls.{Call, format, check, place, remove, find, list, Buffers, Outcome, unless, finding, listing, lent, finite, ordered, outcome, windowOf, begins, walkOf}
+use Rattle.kdb.specs.Calls.{Call, format, check, place, remove, find, list, Buffers, Outcome, Test, _or_, unless, judge, tests, core, finding, listing, lent, finite, ordered, outcome, windowOf, begins, walkOf}
 use Rattle.kdb.proofs.Lists.{and-i, bool, cases, is-true, self, tally-front, take-past, take-less, many-append}
 
 -- the walks begin with the same m + 1 pages and, if the first reads no more than m, are the same
@@ -247,12 +247,14 @@ pub record Told (o o′ : Outcome) : Type 0 where
   pub values : o′ .values ≡ o .values
   pub answer : o′ .after .answer ≡ o .after .answer
 
-unless-told : (a a′ : Bool) (n : ℕ) (b b′ : Buffers) (o o′ : Outcome) → a′ ≡ a → b′ .answer ≡ b .answer → (T a → Told o o′) → Told (unless a n b o) (unless a′ n b′ o′)
-unless-told a a′ n b b′ o o′ e d f = rw e (go a f)
+judge-told : (ts : List Test) (b b′ : Buffers) (o o′ : Outcome) → b′ .answer ≡ b .answer → (T (every (λ t. t .holds) ts) → Told o o′)
+    → Told (judge ts b o) (judge ts b′ o′)
+judge-told [] b b′ o o′ d f = f tt
+judge-told (t ∷ ts) b b′ o o′ d f = go (t .holds) (λ h. judge-told ts b b′ o o′ d (λ i. f (and-i (t .holds) _ h i)))
   where
-    go : (a : Bool) → (T a → Told o o′) → Told (unless a n b o) (unless a n b′ o′)
-    go true f = f tt
-    go false f = record { number = refl; values = refl; answer = d }
+    go : (h : Bool) → (T h → Told (judge ts b o) (judge ts b′ o′)) → Told (unless h (t .refusal) b (judge ts b o)) (unless h (t .refusal) b′ (judge ts b′ o′))
+    go true i = i tt
+    go false i = record { number = refl; values = refl; answer = d }
 
 finding-told : (read : List ℕ) (e : End) (b b′ : Buffers) → b′ .answer ≡ b .answer → Told (finding (ends read e) b) (finding (ends read e) b′)
 finding-told read rootless b b′ d = record { number = refl; values = refl; answer = d }
@@ -293,19 +295,23 @@ module _ (w w′ : List ℕ) where
     domains-same : domains w′ ≡ domains w
     domains-same = word 0 (omega arith)
 
-  begins-same : (c : Call) → Agree 32 w w′ (walkOf w c) → begins w′ c ≡ begins w c
-  begins-same (format k) a = refl
-  begins-same check a = refl
-  begins-same (place work p l) a = refl
-  begins-same (remove p) a = refl
-  begins-same (find p) a =
+  -- a call with a walk is tested alike
+  tests-same : (c : Call) → T (walks c) → Agree 32 w w′ (walkOf w c) → tests w′ c ≡ tests w c
+  tests-same (format k) t a = absurd t
+  tests-same check t a = absurd t
+  tests-same (place work p l) t a = absurd t
+  tests-same (remove p) t a = absurd t
+  tests-same (find p) t a =
       let r = walkOf w (find p) in
-      ap₂ (λ x y. x && y && eqb (length p) (domains w′) && finite p) (long-same r a) (header-same r a)
-      ∙ ap (λ k. goodLength 32 w && goodHeader 32 w && eqb (length p) k && finite p) (domains-same r a)
-  begins-same (list v answer) a =
+      ap₂ (λ x y. (x or 1) ∷ (y or 6) ∷ (eqb (length p) (domains w′) or 3) ∷ (finite p or 4) ∷ []) (long-same r a) (header-same r a)
+      ∙ ap (λ k. (goodLength 32 w or 1) ∷ (goodHeader 32 w or 6) ∷ (eqb (length p) k or 3) ∷ (finite p or 4) ∷ []) (domains-same r a)
+  tests-same (list v answer) t a =
       let r = walkOf w (list v answer) in
-      ap₂ (λ x y. x && y && eqb (length v) (2 * domains w′) && finite v && ordered (windowOf (domains w′) v)) (long-same r a) (header-same r a)
-      ∙ ap (λ k. goodLength 32 w && goodHeader 32 w && eqb (length v) (2 * k) && finite v && ordered (windowOf k v)) (domains-same r a)
+      ap₂ (λ x y. (x or 1) ∷ (y or 6) ∷ (eqb (length v) (2 * domains w′) or 3) ∷ (finite v or 4) ∷ (ordered (windowOf (domains w′) v) or 5) ∷ []) (long-same r a) (header-same r a)
+      ∙ ap (λ k. (goodLength 32 w or 1) ∷ (goodHeader 32 w or 6) ∷ (eqb (length v) (2 * k) or 3) ∷ (finite v or 4) ∷ (ordered (windowOf k v) or 5) ∷ []) (domains-same r a)
+
+  begins-same : (c : Call) → T (walks c) → Agree 32 w w′ (walkOf w c) → begins w′ c ≡ begins w c
+  begins-same c t a = ap (every (λ t. t .holds)) (tests-same c t a)
 
   found-same : (p : Key) → T (begins w (find p)) → Agree 32 w w′ (walkOf w (find p)) → findWalk 32 w′ p ≡ findWalk 32 w p
   found-same p t a = find-same 32 (omega arith) w w′ p (begun (begins w (find p)) _ t a)
@@ -323,51 +329,39 @@ module _ (w w′ : List ℕ) where
   walk-local (place work p l) a = refl
   walk-local (remove p) a = refl
   walk-local (find p) a =
-      ap (λ b. cond b (findWalk 32 w′ p .read) []) (begins-same (find p) a)
+      ap (λ b. cond b (findWalk 32 w′ p .read) []) (begins-same (find p) tt a)
       ∙ cases (λ b. (T b → findWalk 32 w′ p ≡ findWalk 32 w p) → cond b (findWalk 32 w′ p .read) [] ≡ cond b (findWalk 32 w p .read) []) (begins w (find p))
       (λ _ f. ap (λ s. s .read) (f tt)) (λ _ _. refl) (λ t. found-same p t a)
   walk-local (list v answer) a =
       let t′ = listWalk 32 w′ (windowOf (domains w′) v) in
       let t = listWalk 32 w (windowOf (domains w) v) in
-      ap (λ b. cond b (t′ .read) []) (begins-same (list v answer) a)
+      ap (λ b. cond b (t′ .read) []) (begins-same (list v answer) tt a)
       ∙ cases (λ b. (T b → t′ ≡ t) → cond b (t′ .read) [] ≡ cond b (t .read) []) (begins w (list v answer))
       (λ _ f. ap (λ s. s .read) (f tt)) (λ _ _. refl) (λ h. listed-same v answer h a)
+
+  core-told : (c : Call) → T (walks c) → Agree 32 w w′ (walkOf w c) → T (begins w c) → Told (core w c) (core w′ c)
+  core-told (format k) t a h = absurd t
+  core-told check t a h = absurd t
+  core-told (place work p l) t a h = absurd t
+  core-told (remove p) t a h = absurd t
+  core-told (find p) t a h =
+      subst (λ s. Told (finding (findWalk 32 w p) (lent w (find p))) (finding s (lent w′ (find p)))) (sym (found-same p h a))
+      (finding-told (findWalk 32 w p .read) (findWalk 32 w p .end) (lent w (find p)) (lent w′ (find p)) refl)
+  core-told (list v answer) t a h =
+      let s = listWalk 32 w (windowOf (domains w) v) in
+      subst (λ s′. Told (listing s w answer) (listing s′ w′ answer)) (sym (listed-same v answer h a)) (listing-told (s .read) (s .bad) (s .found) w w′ answer)
+
+  lent-answer : (c : Call) → lent w′ c .answer ≡ lent w c .answer
+  lent-answer (format k) = refl
+  lent-answer check = refl
+  lent-answer (place work p l) = refl
+  lent-answer (remove p) = refl
+  lent-answer (find p) = refl
+  lent-answer (list v answer) = refl
 
   -- and so do the number, the values and the answer buffer
   pub told-local : (c : Call) → T (walks c) → Agree 32 w w′ (walkOf w c) → Told (outcome w c) (outcome w′ c)
   unfolding outcome
-  told-local (format k) t a = absurd t
-  told-local check t a = absurd t
-  told-local (place work p l) t a = absurd t
-  told-local (remove p) t a = absurd t
-  told-local (find p) t a =
-      let r = walkOf w (find p) in
-      let b = lent w (find p) in
-      let b′ = lent w′ (find p) in
-      let g = goodLength 32 w in
-      let h = goodHeader 32 w in
-      let k = eqb (length p) (domains w) in
-      unless-told g _ 1 b b′ _ _ (long-same r a) refl (λ t1.
-      unless-told h _ 6 b b′ _ _ (header-same r a) refl (λ t2.
-      unless-told k _ 3 b b′ _ _ (ap (λ k. eqb (length p) k) (domains-same r a)) refl (λ t3.
-      unless-told (finite p) _ 4 b b′ _ _ refl refl (λ t4.
-      subst (λ s. Told (finding (findWalk 32 w p) b) (finding s b′))
-      (sym (found-same p (and-i (g && h && k) (finite p) (and-i (g && h) k (and-i g h t1 t2) t3) t4) a))
-      (finding-told (findWalk 32 w p .read) (findWalk 32 w p .end) b b′ refl)))))
-  told-local (list v answer) t a =
-      let r = walkOf w (list v answer) in
-      let b = lent w (list v answer) in
-      let b′ = lent w′ (list v answer) in
-      let g = goodLength 32 w in
-      let h = goodHeader 32 w in
-      let k = eqb (length v) (2 * domains w) in
-      let o = ordered (windowOf (domains w) v) in
-      let s = listWalk 32 w (windowOf (domains w) v) in
-      unless-told g _ 1 b b′ _ _ (long-same r a) refl (λ t1.
-      unless-told h _ 6 b b′ _ _ (header-same r a) refl (λ t2.
-      unless-told k _ 3 b b′ _ _ (ap (λ k. eqb (length v) (2 * k)) (domains-same r a)) refl (λ t3.
-      unless-told (finite v) _ 4 b b′ _ _ refl refl (λ t4.
-      unless-told o _ 5 b b′ _ _ (ap (λ k. ordered (windowOf k v)) (domains-same r a)) refl (λ t5.
-      subst (λ s′. Told (listing s w answer) (listing s′ w′ answer))
-      (sym (listed-same v answer (and-i (g && h && k && finite v) o (and-i (g && h && k) (finite v) (and-i (g && h) k (and-i g h t1 t2) t3) t4) t5) a))
-      (listing-told (s .read) (s .bad) (s .found) w w′ answer))))))
+  told-local c t a =
+      subst (λ ts. Told (judge (tests w c) (lent w c) (core w c)) (judge ts (lent w′ c) (core w′ c))) (sym (tests-same c t a))
+      (judge-told (tests w c) (lent w c) (lent w′ c) (core w c) (core w′ c) (lent-answer c) (core-told c t a))

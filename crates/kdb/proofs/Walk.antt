@@ -2,7 +2,7 @@
 -- a call returns is its walk's length.
 use mathlib.Core.Bool.{Bool, true, false, _&&_, cond}
 use mathlib.Core.List.{List, [], _∷_, _++_}
-use mathlib.Core.Path.{_≡_, refl}
+use mathlib.Core.Path.{_≡_, refl, sym, ap, _∙_}
 use Prim.Native.Nat.{ℕ, zero, suc, _+_, _-_, _*_, _<_, _≤_}
 use native.Mathlib.Omega.{arith}
 use lib.Dec.{T, leb, ltb, eqb, leb→le, ltb→lt}
@@ -13,8 +13,9 @@ use Rattle.kdb.specs.Box.{Box, Key, within, meets}
 use Rattle.kdb.specs.Pages.{Ent, entsIn}
 use Rattle.kdb.specs.Pool.{domains, rootAt, levelsAt, pagesIn, view, goodLength, goodHeader}
 use Rattle.kdb.specs.Walk.{Spot, Tour, still, readAt, follow, through, isPage, goodPoints, goodRegions, tour, bounded, listWalk, End, rootless, bad, absent, here, Search, ends, into, seek, findWalk}
-use Rattle.kdb.specs.Calls.{Call, format, check, place, remove, find, list, Buffers, Outcome, unless, finding, listing, filled, lent, finite, ordered, outcome, windowOf, begins, walkOf}
-use Rattle.kdb.proofs.Lists.{and-l, and-r, and-i, bool, cases, every-append, every-take, every-many, pos}
+use Rattle.kdb.proofs.Calls.{done}
+use Rattle.kdb.specs.Calls.{Call, format, check, place, remove, find, list, Buffers, Outcome, finding, listing, filled, lent, finite, ordered, outcome, windowOf, begins, walkOf}
+use Rattle.kdb.proofs.Lists.{and-l, and-r, and-i, bool, cases, is-true, every-append, every-take, every-many, pos}
 
 -- the length of a walk into entries
 into-length : (below : ℕ → Search) (p : Key) (m : ℕ) → ((c : ℕ) → length (below c .read) ≤ m) → (es : List Ent) → length (into below p es .read) ≤ m
@@ -112,7 +113,7 @@ walk-bound w (place work p l) = omega arith
 walk-bound w (remove p) = omega arith
 walk-bound w (find p) =
     cases (λ b. length (cond b (findWalk 32 w p .read) []) ≤ pagesIn 32 w - 1) (begins w (find p))
-    (λ h. omega (arith, find-length 32 w p, few-levels 32 w (and-r (goodLength 32 w) _ (and-l (goodLength 32 w && goodHeader 32 w) _ (and-l (goodLength 32 w && goodHeader 32 w && eqb (length p) (domains w)) _ h))))) (λ _. omega arith)
+    (λ h. omega (arith, find-length 32 w p, few-levels 32 w (and-l (goodHeader 32 w) _ (and-r (goodLength 32 w) _ h)))) (λ _. omega arith)
 walk-bound w (list v answer) =
     cases (λ b. length (cond b (listWalk 32 w (windowOf (domains w) v) .read) []) ≤ pagesIn 32 w - 1) (begins w (list v answer))
     (λ _. list-length 32 w (windowOf (domains w) v)) (λ _. omega arith)
@@ -139,20 +140,19 @@ walk-pages w c j h = page-e 32 w j (every-many (isPage 32 w) (walkOf w c) (walk-
 pub find-returns : (w p : List ℕ) → outcome w (find p) .number ≡ 0
     → (x : Spot) × (findWalk 32 w p .end ≡ here x) × (outcome w (find p) .values ≡ x .rec .loc ∷ length (walkOf w (find p)) ∷ [])
 unfolding outcome
-find-returns w p z = go (goodLength 32 w) (goodHeader 32 w) (eqb (length p) (domains w)) (finite p) (findWalk 32 w p .read) (findWalk 32 w p .end) (lent w (find p)) z
+find-returns w p z =
+    let d = done w (find p) z in
+    let g = findWalk 32 w p in
+    let told : finding g (lent w (find p)) .number ≡ 0 = sym (ap (λ o. o .number) (d .1)) ∙ z in
+    let r = go (g .read) (g .end) (lent w (find p)) told in
+    (r .0, r .1, ap (λ o. o .values) (d .1) ∙ (r .2 ∙ ap (λ b. r .0 .rec .loc ∷ length (cond b (g .read) []) ∷ []) (sym (is-true (begins w (find p)) (d .0)))))
   where
-    go : (a b c d : Bool) (read : List ℕ) (e : End) (bs : Buffers)
-        → unless a 1 bs (unless b 6 bs (unless c 3 bs (unless d 4 bs (finding (ends read e) bs)))) .number ≡ 0
-        → (x : Spot) × (e ≡ here x)
-        × (unless a 1 bs (unless b 6 bs (unless c 3 bs (unless d 4 bs (finding (ends read e) bs)))) .values ≡ x .rec .loc ∷ length (cond (a && b && c && d) read []) ∷ [])
-    go false b c d read e bs z = absurd (omega arith)
-    go true false c d read e bs z = absurd (omega arith)
-    go true true false d read e bs z = absurd (omega arith)
-    go true true true false read e bs z = absurd (omega arith)
-    go true true true true read rootless bs z = absurd (omega arith)
-    go true true true true read bad bs z = absurd (omega arith)
-    go true true true true read (absent j) bs z = absurd (omega arith)
-    go true true true true read (here x) bs z = (x, refl, refl)
+    go : (read : List ℕ) (e : End) (b : Buffers) → finding (ends read e) b .number ≡ 0
+        → (x : Spot) × (e ≡ here x) × (finding (ends read e) b .values ≡ x .rec .loc ∷ length read ∷ [])
+    go read rootless b z = absurd (omega arith)
+    go read bad b z = absurd (omega arith)
+    go read (absent j) b z = absurd (omega arith)
+    go read (here x) b z = (x, refl, refl)
 
 -- a list that is done met no bad page, and returns the total found and the walk's length
 pub list-returns : (w v answer : List ℕ) → outcome w (list v answer) .number ≡ 0
@@ -161,20 +161,18 @@ pub list-returns : (w v answer : List ℕ) → outcome w (list v answer) .number
     × (outcome w (list v answer) .after .answer ≡ filled answer (listWalk 32 w (windowOf (domains w) v) .found))
 unfolding outcome
 list-returns w v answer z =
+    let d = done w (list v answer) z in
     let t = listWalk 32 w (windowOf (domains w) v) in
-    go (goodLength 32 w) (goodHeader 32 w) (eqb (length v) (2 * domains w)) (finite v) (ordered (windowOf (domains w) v)) (t .read) (t .bad) (t .found) (lent w (list v answer)) z
+    let told : listing t w answer .number ≡ 0 = sym (ap (λ o. o .number) (d .1)) ∙ z in
+    let r = go (t .read) (t .bad) (t .found) told in (
+      r .0,
+      ap (λ o. o .values) (d .1) ∙ (r .1 ∙ ap (λ b. length (t .found) ∷ length (cond b (t .read) []) ∷ []) (sym (is-true (begins w (list v answer)) (d .0)))),
+      ap (λ o. o .after .answer) (d .1) ∙ r .2,
+    )
   where
-    go : (a b c d e : Bool) (read : List ℕ) (z : Bool) (found : List Spot) (bs : Buffers)
-        → unless a 1 bs (unless b 6 bs (unless c 3 bs (unless d 4 bs (unless e 5 bs (listing (record { read = read; bad = z; found = found }) w answer))))) .number ≡ 0
-        → (z ≡ false)
-        × (unless a 1 bs (unless b 6 bs (unless c 3 bs (unless d 4 bs (unless e 5 bs (listing (record { read = read; bad = z; found = found }) w answer))))) .values
-        ≡ length found ∷ length (cond (a && b && c && d && e) read []) ∷ [])
-        × (unless a 1 bs (unless b 6 bs (unless c 3 bs (unless d 4 bs (unless e 5 bs (listing (record { read = read; bad = z; found = found }) w answer))))) .after .answer
-        ≡ filled answer found)
-    go false b c d e read z found bs q = absurd (omega arith)
-    go true false c d e read z found bs q = absurd (omega arith)
-    go true true false d e read z found bs q = absurd (omega arith)
-    go true true true false e read z found bs q = absurd (omega arith)
-    go true true true true false read z found bs q = absurd (omega arith)
-    go true true true true true read true found bs q = absurd (omega arith)
-    go true true true true true read false found bs q = (refl, refl, refl)
+    go : (read : List ℕ) (m : Bool) (found : List Spot) → listing (record { read = read; bad = m; found = found }) w answer .number ≡ 0
+        → (m ≡ false)
+        × (listing (record { read = read; bad = m; found = found }) w answer .values ≡ length found ∷ length read ∷ [])
+        × (listing (record { read = read; bad = m; found = found }) w answer .after .answer ≡ filled answer found)
+    go read true found z = absurd (omega arith)
+    go read false found z = (refl, refl, refl)
