@@ -9,5 +9,6 @@ pub mod Views
 pub mod Print
 pub mod Walk
 pub mod Local
+pub mod History
 pub mod Cases
 pub mod Sessions

@@ -3,7 +3,7 @@ use mathlib.Core.List.{List, [], _∷_, _++_}
 use Prim.Native.Nat.{ℕ, zero, suc}
 use Rattle.kdb.specs.Tree.{Rec}
 use Rattle.kdb.specs.Steps.{without}
-use Rattle.kdb.specs.Calls.{Call, format, check, place, remove, find, list, Outcome, outcome}
+use Rattle.kdb.specs.Calls.{Call, format, check, place, remove, find, list, Outcome, outcome, Promise}
 
 -- the number and the values that a call returned
 pub record Answer : Type 0 where
@@ -41,3 +41,8 @@ abbrev pub live : List Rec → List Call → List Answer → List Rec
 live rs [] told = rs
 live rs (c ∷ cs) [] = rs
 live rs (c ∷ cs) (a ∷ told) = live (changed (a .number) c rs) cs told
+
+-- a sequence of calls of any code, each of which keeps its promise: the pool before, the calls, their outcomes, the pool after
+pub data Keeps : List ℕ → List Call → List Outcome → List ℕ → Type 0 where
+  over : {w : List ℕ} → Keeps w [] [] w
+  next : {w v : List ℕ} {c : Call} {cs : List Call} {o : Outcome} {os : List Outcome} → Promise w c o → Keeps (o .after .pool) cs os v → Keeps w (c ∷ cs) (o ∷ os) v

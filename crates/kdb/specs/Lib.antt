@@ -12,3 +12,4 @@ pub mod Walk
 pub mod Calls
 pub mod History
 pub mod Frames
+pub mod Demands

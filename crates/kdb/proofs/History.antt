@@ -1,0 +1,50 @@
+-- Sequences of calls: the records that a call which was done leaves, by counts; and that a sequence in which each call keeps its promise is
+-- the run of the definitions.
+use mathlib.Core.Bool.{Bool, true, false, _&&_, not}
+use mathlib.Core.List.{List, [], _∷_, _++_, map}
+use mathlib.Core.Path.{_≡_, refl, sym, ap, ap₂, _∙_}
+use Prim.Native.Nat.{ℕ, zero, suc, _+_, _<_, _≤_}
+use native.Mathlib.Omega.{arith}
+use lib.Dec.{T}
+use Rattle.kdb.specs.Lists.{bit, tally, same}
+use Rattle.kdb.specs.Box.{Key}
+use Rattle.kdb.specs.Tree.{Rec}
+use Rattle.kdb.specs.Steps.{without}
+use Rattle.kdb.specs.Calls.{Call, format, check, place, remove, find, list, Outcome, outcome, Promise}
+use Rattle.kdb.specs.History.{Answer, answerOf, run, answers, change, changed, live, Keeps, over, next}
+use Rattle.kdb.specs.Demands.{SameRecords, keyed}
+use Rattle.kdb.proofs.Lists.{and-l, cases, tally-append, tally-imp}
+
+-- without the record of a key that stands once at the most: the counts lose what that record counts
+pub without-tally : (p : Key) (g : Rec → Bool) (rs : List Rec) → tally (keyed p) rs ≤ 1
+    → tally g rs ≡ tally g (without p rs) + tally (λ r. same p (r .key) && g r) rs
+without-tally p g [] h = refl
+without-tally p g (r ∷ rs) h = go (same p (r .key)) h (without-tally p g rs)
+  where
+    go : (t : Bool) → bit t + tally (keyed p) rs ≤ 1 → (tally (keyed p) rs ≤ 1 → tally g rs ≡ tally g (without p rs) + tally (λ r. same p (r .key) && g r) rs)
+        → bit (g r) + tally g rs ≡ tally g (elim t as (λ _. List Rec) [ true ↦ rs | false ↦ r ∷ without p rs ]) + (bit (t && g r) + tally (λ r. same p (r .key) && g r) rs)
+    go true h i = omega (arith, tally-imp (λ r. same p (r .key) && g r) (keyed p) (λ a t. and-l (same p (a .key)) (g a) t) rs)
+    go false h i = omega (arith, i (omega arith))
+
+-- one call changes two lists of the same records alike
+pub changed-same : (n : ℕ) (c : Call) (a b : List Rec) → ((p : Key) → tally (keyed p) a ≤ 1) → SameRecords a b → SameRecords (changed n c a) (changed n c b)
+changed-same (suc n) c a b once e = e
+changed-same zero (format k) a b once e = λ g. refl
+changed-same zero check a b once e = e
+changed-same zero (place work p l) a b once e = λ g.
+    let q : List Rec = record { key = p; loc = l } ∷ [] in
+    omega (arith, e g, tally-append g a q, tally-append g b q)
+changed-same zero (remove p) a b once e = λ g.
+    let x = without-tally p g a (once p) in
+    let y = without-tally p g b (omega (arith, once p, e (keyed p))) in
+    omega (arith, e g, e (λ r. same p (r .key) && g r))
+changed-same zero (find p) a b once e = e
+changed-same zero (list v s) a b once e = e
+
+-- any code whose calls keep their promises runs as the definitions do
+pub keeps-run : {w v : List ℕ} {cs : List Call} {os : List Outcome} → Keeps w cs os v → (v ≡ run w cs) × (map answerOf os ≡ answers w cs)
+keeps-run over = (refl, refl)
+keeps-run (next {w} {v} {c} {cs} {o} {os} p k) =
+    let i = keeps-run k in
+    let e : o .after .pool ≡ outcome w c .after .pool = ap (λ x. x .after .pool) (p .kept) in
+    (i .0 ∙ ap (λ x. run x cs) e, ap₂ _∷_ (ap answerOf (p .kept)) (i .1 ∙ ap (λ x. answers x cs) e))

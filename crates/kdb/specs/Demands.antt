@@ -1,0 +1,91 @@
+-- Demands 2 and 3 as statements, each with a field for each thing it says; `Demands` in proofs/ proves them. Demand 1 is `outcome` in
+-- Calls.antt: a function of every input, with the refusals as a table.
+use mathlib.Core.Bool.{Bool, true, false, _&&_}
+use mathlib.Core.List.{List, [], _∷_, _++_, map}
+use mathlib.Core.Logic.{_↔_}
+use mathlib.Core.Option.{Option, none, some}
+use mathlib.Core.Path.{_≡_}
+use Prim.Native.Nat.{ℕ, _*_, _-_, _≤_}
+use lib.Dec.{T, eqb}
+use lib.ListN.{length, take, drop, getD}
+use Rattle.kdb.specs.Lists.{only, tally, many, same}
+use Rattle.kdb.specs.Box.{Box, Key, within, inWindow, meets, sides}
+use Rattle.kdb.specs.Tree.{Rec, State, recordsOf}
+use Rattle.kdb.specs.Steps.{removed}
+use Rattle.kdb.specs.Pool.{domains, levelsAt, pagesIn, numbers, Sound, ownRegion}
+use Rattle.kdb.specs.Print.{printed, stateOf}
+use Rattle.kdb.specs.Calls.{L, Call, place, remove, find, list, finite, windowOf, ordered, stepped, outcome, walkOf}
+use Rattle.kdb.specs.History.{run, answers, live}
+
+-- the same records, each as often: equal counts for every test
+abbrev pub SameRecords : List Rec → List Rec → Type 0
+SameRecords a b = (g : Rec → Bool) → tally g a ≡ tally g b
+
+-- the records with this key
+abbrev pub keyed : Key → Rec → Bool
+keyed p r = same p (r .key)
+
+-- the live records in the window
+abbrev pub inside : ℕ → List ℕ → List Rec → List Rec
+inside k v rs = only (λ r. inWindow (windowOf k v) (r .key)) rs
+
+-- a window that list takes, and a point that find takes
+abbrev pub goodWindow : ℕ → List ℕ → Bool
+goodWindow k v = eqb (length v) (2 * k) && finite v && ordered (windowOf k v)
+
+abbrev pub goodPoint : ℕ → List ℕ → Bool
+goodPoint k p = eqb (length p) k && finite p
+
+-- list on pool w finds exactly those of the records rs that lie in the window, edges counted, each once, whatever the slots
+pub record Lists (w : List ℕ) (rs : List Rec) (v slots : List ℕ) : Type 0 where
+  pub done : outcome w (list v slots) .number ≡ 0
+  -- the records found, in walk order
+  pub found : List Rec
+  pub exact : SameRecords found (inside (domains w) v rs)
+  pub total : getD (outcome w (list v slots) .values) 0 0 ≡ length (inside (domains w) v rs)
+  -- the first slots take their locations, as many as there are; later slots are unchanged
+  pub answer : outcome w (list v slots) .after .answer ≡ take (length slots) (map (λ r. r .loc) found) ++ drop (length found) slots
+
+-- find on pool w answers 0 with the location of the record of rs that has the point's keys, or 8 if there is none
+pub record Finds (w : List ℕ) (rs : List Rec) (p : List ℕ) : Type 0 where
+  pub here : (l : ℕ) → 1 ≤ tally (λ r. same p (r .key) && eqb l (r .loc)) rs → (outcome w (find p) .number ≡ 0) × (getD (outcome w (find p) .values) 0 0 ≡ l)
+  pub absent : tally (keyed p) rs ≡ 0 → outcome w (find p) .number ≡ 8
+
+-- the live records after the calls, from those in the pool before them, the calls, and their answers
+abbrev pub liveAfter : List ℕ → List Call → List Rec
+liveAfter w cs = live (recordsOf (stateOf L w)) cs (answers w cs)
+
+-- Demand 2: after the calls the pool is a K-D-B-tree by Robinson's section 2, and a window lists exactly the live records in it
+pub record Demand2 (w : List ℕ) (cs : List Call) : Type 0 where
+  pub sound : Sound L (run w cs)
+  pub contents : SameRecords (recordsOf (stateOf L (run w cs))) (liveAfter w cs)
+  pub once : (p : Key) → tally (keyed p) (liveAfter w cs) ≤ 1
+  pub lists : (v slots : List ℕ) → T (goodWindow (domains (run w cs)) v) → Lists (run w cs) (liveAfter w cs) v slots
+  pub finds : (p : List ℕ) → T (goodPoint (domains (run w cs)) p) → Finds (run w cs) (liveAfter w cs) p
+
+-- the tree is built by Robinson's steps: an accepted place or remove takes the state to the step's state and the pool to its printed form
+pub record ByTheSteps (w : List ℕ) : Type 0 where
+  pub places : (work p : List ℕ) (l : ℕ) → outcome w (place work p l) .number ≡ 0
+      → (s : State) × (stepped w (record { key = p; loc = l }) ≡ some s) × (outcome w (place work p l) .after .pool ≡ printed L (domains w) (pagesIn L w) s) × (stateOf L (outcome w (place work p l) .after .pool) ≡ s)
+  pub removes : (p : List ℕ) → outcome w (remove p) .number ≡ 0
+      → (outcome w (remove p) .after .pool ≡ printed L (domains w) (pagesIn L w) (removed (stateOf L w) p)) × (stateOf L (outcome w (remove p) .after .pool) ≡ removed (stateOf L w) p)
+
+-- page j's own region meets the window
+abbrev pub ownMeets : Option Box → Box → Bool
+ownMeets none v = false
+ownMeets (some r) v = meets r v
+
+-- Demand 3, on a sound pool: the walk reads exactly the pages whose own region shares a point with the window, each once, and the count
+-- returned is their number; a window of one point, and a find that succeeds, read one page a level
+pub record Demand3 (w : List ℕ) : Type 0 where
+  pub reads : (v slots : List ℕ) → T (goodWindow (domains w) v) → (j : ℕ)
+      → (1 ≤ many j (walkOf w (list v slots))) ↔ ((r : Box) × (ownRegion L w j ≡ some r) × ((p : Key) × T (within r p) × T (inWindow (windowOf (domains w) v) p)))
+  pub once : (v slots : List ℕ) → T (goodWindow (domains w) v) → (j : ℕ) → many j (walkOf w (list v slots)) ≤ 1
+  pub count : (v slots : List ℕ) → T (goodWindow (domains w) v)
+      → getD (outcome w (list v slots) .values) 1 0 ≡ tally (λ j. ownMeets (ownRegion L w j) (windowOf (domains w) v)) (numbers L w)
+  pub point : (p slots : List ℕ) → T (goodPoint (domains w) p) → getD (outcome w (list (p ++ p) slots) .values) 1 0 ≡ levelsAt w
+  pub find : (p : List ℕ) → outcome w (find p) .number ≡ 0 → getD (outcome w (find p) .values) 1 0 ≡ levelsAt w
+
+-- Demand 3, on any words: no walk is longer than N − 1, refused walks included
+abbrev pub Bounded : List ℕ → Type 0
+Bounded w = (c : Call) → length (walkOf w c) ≤ pagesIn L w - 1
