@@ -1,6 +1,7 @@
 pub mod Lists
 pub mod Box
 pub mod Tiling
+pub mod Cut
 pub mod Fair
 pub mod Stands
 pub mod Cases

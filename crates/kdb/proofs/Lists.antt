@@ -250,3 +250,8 @@ module _ {ℓ} {A : Type ℓ} where
 pub tally-map {ℓ κ} : {A : Type ℓ} {B : Type κ} (g : B → Bool) (f : A → B) (l : List A) → tally g (map f l) ≡ tally (λ a. g (f a)) l
 tally-map g f [] = refl
 tally-map g f (a ∷ l) = ap (λ n. bit (g (f a)) + n) (tally-map g f l)
+
+pub getD-in : (g : ℕ → Bool) (l : List ℕ) (i : ℕ) → i < length l → T (g (getD l i 0)) → 1 ≤ tally g l
+getD-in g [] i h t = absurd (omega arith)
+getD-in g (a ∷ l) zero h t = omega (arith, to-bit (g a) t)
+getD-in g (a ∷ l) (suc i) h t = omega (arith, getD-in g l i (omega arith) t)
