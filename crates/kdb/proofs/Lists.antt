@@ -397,3 +397,7 @@ module _ {ℓ} {A : Type ℓ} where
   tally-front g zero l k = omega arith
   tally-front g (suc m) [] k = omega arith
   tally-front g (suc m) (a ∷ l) k = omega (arith, tally-front g m l k)
+pub getD-in : (g : ℕ → Bool) (l : List ℕ) (i : ℕ) → i < length l → T (g (getD l i 0)) → 1 ≤ tally g l
+getD-in g [] i h t = absurd (omega arith)
+getD-in g (a ∷ l) zero h t = omega (arith, to-bit (g a) t)
+getD-in g (a ∷ l) (suc i) h t = omega (arith, getD-in g l i (omega arith) t)
