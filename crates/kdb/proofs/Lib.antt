@@ -1,5 +1,7 @@
 pub mod Lists
 pub mod Box
+pub mod Tiling
+pub mod Fair
 pub mod Pages
 pub mod Views
 pub mod Stands
