@@ -6,4 +6,5 @@ pub mod Pages
 pub mod Views
 pub mod Stands
 pub mod Print
+pub mod Pool
 pub mod Cases
