@@ -12,5 +12,6 @@ pub mod Print
 pub mod Walk
 pub mod Local
 pub mod History
+pub mod Pool
 pub mod Cases
 pub mod Sessions

@@ -17,7 +17,7 @@ use Rattle.kdb.specs.Pages.{Ent, Page, blank, points, regions, recsIn, i
 use Rattle.kdb.specs.Print.{ents, orPage, pageOf, pageOfF}
 use Rattle.kdb.proofs.Lists.{bool, and-l, and-r, and-i, or-l, or-r, self, no-bit, to-bit, is-false, of-true, many-append, cond-case, some-many, sum-same, sum-add, sum-none, sum-hit, Ranged}
 use Rattle.kdb.proofs.Box.{within-i, within-e}
-use Rattle.kdb.proofs.Pages.{lows}
+use Rattle.kdb.proofs.Tiling.{low, low-in}
 
 module _ (v : ℕ → Page) where
   abbrev mutual
@@ -152,13 +152,8 @@ whole-length (suc k) = ap suc (whole-length k)
 pub under-key : (k : ℕ) (r : Box) → Under k r → (p : Key) → T (within r p) → length p ≡ k
 under-key k r u p h = within-length (whole k) p (u .keys p h) ∙ whole-length k
 
--- a solid region holds its lower ends
-lows-within : (b : Box) → T (solid b) → T (within b (lows b))
-lows-within [] h = tt
-lows-within (s ∷ b) h = within-i s (s .lo) b (lows b) (omega arith) (ltb→lt (s .lo) (s .hi) (and-l (ltb (s .lo) (s .hi)) _ h)) (lows-within b (and-r (ltb (s .lo) (s .hi)) _ h))
-
 pub under-length : (k : ℕ) (b : Box) → Under k b → T (solid b) → length b ≡ k
-under-length k b u h = sym (length-map b (λ s. s .lo)) ∙ under-key k b u (lows b) (lows-within b h)
+under-length k b u h = let i = low-in b h in sym (within-length b (low b) i) ∙ under-key k b u (low b) i
 
 -- the keys of the whole space are finite
 pub whole-finite : (k : ℕ) (p : Key) → T (within (whole k) p) → T (every (λ x. ltb x ∞) p)
