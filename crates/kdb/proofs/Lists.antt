@@ -4,7 +4,7 @@ use mathlib.Core.List.{List, [], _∷_, _++_, map, append-assoc}
 use mathlib.Core.Path.{_≡_, refl, sym, ap, ap₂, _∙_}
 use Prim.Native.Nat.{ℕ, zero, suc, _+_, _-_, _<_, _≤_, min}
 use native.Mathlib.Omega.{arith}
-use lib.Dec.{T, leb, ltb, eqb, leb→le, le→leb, ltb→lt, lt→ltb, nleb→lt, nltb→le, eqb→eq, eqb-refl}
+use lib.Dec.{T, leb, ltb, eqb, leb→le, le→leb, ltb→lt, lt→ltb, nleb→lt, nltb→le, eqb→eq, eqb-refl, T-not}
 use lib.ListN.{length, take, drop, getD, length-append}
 use lib.Seq.{take-append-add, take-take}
 use borrow.Author.Tests.{eq-eqb, ne-eqb}
@@ -166,3 +166,57 @@ module _ {ℓ} {A : Type ℓ} where
   tally-front g zero l k = omega arith
   tally-front g (suc m) [] k = omega arith
   tally-front g (suc m) (a ∷ l) k = omega (arith, tally-front g m l k)
+
+-- a list of numbers from c to c + n − 1, counted by its numbers
+pub sum-map-add : (f g : ℕ → ℕ) (l : List ℕ) → sum (map (λ j. f j + g j) l) ≡ sum (map f l) + sum (map g l)
+sum-map-add f g [] = refl
+sum-map-add f g (a ∷ l) = omega (arith, sum-map-add f g l)
+
+pub sum-map-bits : (f : ℕ → ℕ) (g : ℕ → Bool) → ((j : ℕ) → f j ≡ bit (g j)) → (l : List ℕ) → sum (map f l) ≡ tally g l
+sum-map-bits f g h [] = refl
+sum-map-bits f g h (a ∷ l) = omega (arith, h a, sum-map-bits f g h l)
+
+pub sum-map-most : (f : ℕ → ℕ) (m : ℕ) → ((j : ℕ) → f j ≤ 1) → (l : List ℕ) → length l ≤ m → sum (map f l) ≤ m
+sum-map-most f m h [] k = omega arith
+sum-map-most f zero h (a ∷ l) k = absurd (omega arith)
+sum-map-most f (suc m) h (a ∷ l) k = omega (arith, h a, sum-map-most f m h l (omega arith))
+
+pub length-upFrom : (n c : ℕ) → length (upFrom n c) ≡ n
+length-upFrom zero c = refl
+length-upFrom (suc n) c = ap suc (length-upFrom n (suc c))
+
+up-none : (n c a : ℕ) → a < c → sum (map (λ j. bit (eqb j a)) (upFrom n c)) ≡ 0
+up-none zero c a h = refl
+up-none (suc n) c a h = omega (arith, ap bit (ne-eqb c a (λ e. omega arith)), up-none n (suc c) a (omega arith))
+
+up-one : (n c a : ℕ) → c ≤ a → a < c + n → sum (map (λ j. bit (eqb j a)) (upFrom n c)) ≡ 1
+up-one zero c a h k = absurd (omega arith)
+up-one (suc n) c a h k =
+    bool (eqb c a) (λ e. omega (arith, to-bit (eqb c a) e, eqb→eq c a e, up-none n (suc c) a (omega (arith, eqb→eq c a e))))
+    (λ e. let d : c ≡ a → ⊥ = λ q. T-not (eqb c a) e (of-true (eqb c a) (eq-eqb c a q)) in
+    omega (arith, ap bit (is-false (eqb c a) e), up-one n (suc c) a (omega arith) (omega arith)))
+
+pub up-count : (n c : ℕ) (l : List ℕ) → ((j : ℕ) → 1 ≤ many j l → (c ≤ j) × (j < c + n)) → sum (map (λ j. many j l) (upFrom n c)) ≡ length l
+up-count n c [] h = zeros (upFrom n c)
+  where
+    zeros : (l : List ℕ) → sum (map (λ j. 0) l) ≡ 0
+    zeros [] = refl
+    zeros (a ∷ l) = omega (arith, zeros l)
+up-count n c (a ∷ l) h =
+    let i = h a (omega (arith, self a)) in
+    omega (arith, sum-map-add (λ j. bit (eqb j a)) (λ j. many j l) (upFrom n c), up-one n c a (i .0) (i .1), up-count n c l (λ j k. h j (omega arith)))
+
+-- different numbers from 1 to N − 1 are at most N − 1
+pub once-length : (N : ℕ) (l : List ℕ) → ((c : ℕ) → 1 ≤ many c l → (1 ≤ c) × (c < N)) → ((c : ℕ) → many c l ≤ 1) → length l ≤ N - 1
+once-length N l h k =
+    omega (arith, up-count (N - 1) 1 l (λ j i. let q = h j i in (q .0, omega arith)), sum-map-most (λ j. many j l) (N - 1) k (upFrom (N - 1) 1) (omega (arith, length-upFrom (N - 1) 1)))
+
+-- a property of every element, kept by parts and joins
+module _ {ℓ} {A : Type ℓ} where
+  pub each-only : (P : A → Type 0) (f : A → Bool) (l : List A) → Each P l → Each P (only f l)
+  each-only P f [] h = tt
+  each-only P f (a ∷ l) h = cases (λ b. Each P (cond b (a ∷ only f l) (only f l))) (f a) (λ _. (h .0, each-only P f l (h .1))) (λ _. each-only P f l (h .1))
+
+  pub each-append : (P : A → Type 0) (l m : List A) → Each P l → Each P m → Each P (l ++ m)
+  each-append P [] m h k = k
+  each-append P (a ∷ l) m h k = (h .0, each-append P l m (h .1) k)
