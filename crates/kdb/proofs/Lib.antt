@@ -3,4 +3,5 @@ pub mod Box
 pub mod Stands
 pub mod Walk
 pub mod Local
+pub mod Reading
 pub mod Cases
