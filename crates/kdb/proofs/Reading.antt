@@ -20,7 +20,10 @@ use Rattle.kdb.specs.Print.{ents, orPage, pageOf, pageOfF, pageAt}
 use Rattle.kdb.specs.Walk.{Spot, spots, Tour, still, follow, through, readAt, isPage, goodPoints, goodRegions, tour, bounded, listWalk, End, rootless, bad, absent, here, Search, ends, after, spotOf, into, seek, findWalk}
 use Rattle.kdb.proofs.Lists.{and-i, and-l, and-r, bool, cases, is-true, is-false, of-true, self, to-bit, gate, only-append, every-append, many-append, once-length}
 use Rattle.kdb.proofs.Box.{meets-of, at-meet}
+use Rattle.kdb.proofs.Tiling.{tiles-counted}
+use Rattle.kdb.proofs.Views.{Seen, SeenF, ents-boxes}
 use Rattle.kdb.proofs.Stands.{Stands}
+use Rattle.kdb.proofs.Print.{stands-seen}
 
 -- the tree's walk of a window: the pages read and the records found
 abbrev mutual
@@ -47,63 +50,6 @@ walked t v = record { read = reads t v; bad = false; found = finds t v }
 abbrev walkedF : Forest → Box → Tour
 walkedF f v = record { read = readsF f v; bad = false; found = findsF f v }
 
--- every page of the tree is in its place
-abbrev mutual
-  pub Holds : (ℕ → Page) → Tree → Type 0
-  Holds u (leaf p d rs) = u p ≡ points d rs
-  Holds u (node p d f) = (u p ≡ regions d (ents f)) × HoldsF u f
-
-  pub HoldsF : (ℕ → Page) → Forest → Type 0
-  HoldsF u fnil = Unit {0}
-  HoldsF u (fcons b t f) = Holds u t × HoldsF u f
-
-mutual
-  holds-same : (t : Tree) (u u′ : ℕ → Page) → ((c : ℕ) → 1 ≤ many c (pages t) → u′ c ≡ u c) → Holds u t → Holds u′ t
-  holds-same (leaf p d rs) u u′ e h = e p (omega (arith, self p)) ∙ h
-  holds-same (node p d f) u u′ e h = (e p (omega (arith, self p)) ∙ h .0, holds-sameF f u u′ (λ c i. e c (omega arith)) (h .1))
-
-  holds-sameF : (f : Forest) (u u′ : ℕ → Page) → ((c : ℕ) → 1 ≤ many c (pagesF f) → u′ c ≡ u c) → HoldsF u f → HoldsF u′ f
-  holds-sameF fnil u u′ e h = tt
-  holds-sameF (fcons b t f) u u′ e h = (
-    holds-same t u u′ (λ c i. e c (omega (arith, many-append c (pages t) (pagesF f)))) (h .0),
-    holds-sameF f u u′ (λ c i. e c (omega (arith, many-append c (pages t) (pagesF f)))) (h .1),
-  )
-
--- a number that is none of the tree's has no page; one that is has a page that is not free
-other : (c p : ℕ) → bit (eqb c p) ≡ 0 → eqb c p ≡ false
-other c p h = is-false (eqb c p) (bool (eqb c p) (λ t. absurd (omega (arith, to-bit (eqb c p) t))) (λ t. t))
-
-mutual
-  page-none : (t : Tree) (c : ℕ) → many c (pages t) ≡ 0 → pageOf t c ≡ blank
-  page-none (leaf p d rs) c h = rw (other c p (omega arith))
-  page-none (node p d f) c h = rw (other c p (omega arith)) (page-noneF f c (omega arith))
-
-  page-noneF : (f : Forest) (c : ℕ) → many c (pagesF f) ≡ 0 → pageOfF f c ≡ blank
-  page-noneF fnil c h = refl
-  page-noneF (fcons b t f) c h =
-      ap₂ orPage (page-none t c (omega (arith, many-append c (pages t) (pagesF f)))) (page-noneF f c (omega (arith, many-append c (pages t) (pagesF f))))
-
-or-blank : (u : Page) → orPage u blank ≡ u
-or-blank blank = refl
-or-blank (points d rs) = refl
-or-blank (regions d es) = refl
-
-mutual
-  pub holds-self : (t : Tree) → ((c : ℕ) → many c (pages t) ≤ 1) → Holds (pageOf t) t
-  holds-self (leaf p d rs) h = rw (is-true (eqb p p) (eqb-refl p))
-  holds-self (node p d f) h = (
-    rw (is-true (eqb p p) (eqb-refl p)),
-    holds-sameF f (pageOfF f) (pageOf (node p d f)) (λ c i. let z = other c p (omega (arith, h c)) in rw z) (holds-selfF f (λ c. omega (arith, h c))),
-  )
-
-  holds-selfF : (f : Forest) → ((c : ℕ) → many c (pagesF f) ≤ 1) → HoldsF (pageOfF f) f
-  holds-selfF fnil h = tt
-  holds-selfF (fcons b t f) h =
-      let m : (c : ℕ) → many c (pages t) + many c (pagesF f) ≤ 1 = λ c. omega (arith, h c, many-append c (pages t) (pagesF f)) in (
-        holds-same t (pageOf t) (pageOfF (fcons b t f)) (λ c i. ap (orPage (pageOf t c)) (page-noneF f c (omega (arith, m c))) ∙ or-blank (pageOf t c)) (holds-self t (λ c. omega (arith, m c))),
-        holds-sameF f (pageOfF f) (pageOfF (fcons b t f)) (λ c i. ap (λ u. orPage u (pageOfF f c)) (page-none t c (omega (arith, m c)))) (holds-selfF f (λ c. omega (arith, m c))),
-      )
-
 -- the tree's search of a point
 abbrev mutual
   pub seeks : Tree → Key → Search
@@ -113,10 +59,6 @@ abbrev mutual
   pub seeksF : Forest → Key → Search
   seeksF fnil q = ends [] bad
   seeksF (fcons b t f) q = cond (within b q) (seeks t q) (seeksF f q)
-
-length-ents : (f : Forest) → length (ents f) ≡ length (boxes f)
-length-ents fnil = refl
-length-ents (fcons b t f) = ap suc (length-ents f)
 
 good-page : {A : Type 0} (p g : Bool) (x y z : A) → T p → T g → cond p (cond g x y) z ≡ x
 good-page true true x y z t u = refl
@@ -143,7 +85,7 @@ module _ (L : ℕ) (w : List ℕ) where
       let l = length (ents f) in
       let R = regionsPer L (domains w) in
       subst (λ u. T (isRegions u && leb 1 (length (entsIn u)) && leb (length (entsIn u)) R)) (sym e)
-      (and-i (leb 1 l) (leb l R) (le→leb 1 l (omega (arith, length-ents f, s .0 .filled))) (le→leb l R (omega (arith, length-ents f, s .0 .room))))
+      (and-i (leb 1 l) (leb l R) (le→leb 1 l (omega (arith, ents-boxes f, s .0 .filled))) (le→leb l R (omega (arith, ents-boxes f, s .0 .room))))
 
   paged-left : (l m : List ℕ) → Paged (l ++ m) → Paged l
   paged-left l m h c i = h c (omega (arith, many-append c l m))
@@ -158,7 +100,7 @@ module _ (L : ℕ) (w : List ℕ) where
     entry-tour b t f false = refl
 
     mutual
-      tour-tree : (t : Tree) (n : ℕ) (r : Box) → Fits t n r → Holds (view L w) t → Paged (pages t) → tour L w v n (root t) ≡ walked t v
+      tour-tree : (t : Tree) (n : ℕ) (r : Box) → Fits t n r → Seen (view L w) t → Paged (pages t) → tour L w v n (root t) ≡ walked t v
       tour-tree (leaf p d rs) zero r s h g =
           good-page (isPage L w p) (goodPoints L w p) _ _ _ (g p (omega (arith, self p))) (good-points p d zero rs r s h)
           ∙ ap (λ u. readAt p (only (λ s. inWindow v (s .rec .key)) (spots p 0 (recsIn u)))) h
@@ -169,7 +111,7 @@ module _ (L : ℕ) (w : List ℕ) where
           ∙ ap (λ u. follow (readAt p []) (through (tour L w v n) v (entsIn u))) (h .0)
           ∙ ap (λ t. follow (readAt p []) t) (tour-treeF f n (s .1) (h .1) (λ c i. g c (omega arith)))
 
-      tour-treeF : (f : Forest) (n : ℕ) → FitsF f n → HoldsF (view L w) f → Paged (pagesF f) → through (tour L w v n) v (ents f) ≡ walkedF f v
+      tour-treeF : (f : Forest) (n : ℕ) → FitsF f n → SeenF (view L w) f → Paged (pagesF f) → through (tour L w v n) v (ents f) ≡ walkedF f v
       tour-treeF fnil n s h g = refl
       tour-treeF (fcons b t f) n s h g =
           ap₂ (λ x y. follow (cond (meets b v) x still) y) (tour-tree t n b (s .0) (h .0) (paged-left (pages t) (pagesF f) g)) (tour-treeF f n (s .1) (h .1) (paged-right (pages t) (pagesF f) g))
@@ -177,7 +119,7 @@ module _ (L : ℕ) (w : List ℕ) where
 
   module _ (q : Key) where
     mutual
-      seek-tree : (t : Tree) (n : ℕ) (r : Box) → Fits t n r → Holds (view L w) t → Paged (pages t) → seek L w q n (root t) ≡ seeks t q
+      seek-tree : (t : Tree) (n : ℕ) (r : Box) → Fits t n r → Seen (view L w) t → Paged (pages t) → seek L w q n (root t) ≡ seeks t q
       seek-tree (leaf p d rs) zero r s h g =
           good-page (isPage L w p) (goodPoints L w p) _ _ _ (g p (omega (arith, self p))) (good-points p d zero rs r s h)
           ∙ ap (λ u. ends (p ∷ []) (spotOf p q (spots p 0 (recsIn u)))) h
@@ -188,7 +130,7 @@ module _ (L : ℕ) (w : List ℕ) where
           ∙ ap (λ u. after p (into (seek L w q n) q (entsIn u))) (h .0)
           ∙ ap (after p) (seek-treeF f n (s .1) (h .1) (λ c i. g c (omega arith)))
 
-      seek-treeF : (f : Forest) (n : ℕ) → FitsF f n → HoldsF (view L w) f → Paged (pagesF f) → into (seek L w q n) q (ents f) ≡ seeksF f q
+      seek-treeF : (f : Forest) (n : ℕ) → FitsF f n → SeenF (view L w) f → Paged (pagesF f) → into (seek L w q n) q (ents f) ≡ seeksF f q
       seek-treeF fnil n s h g = refl
       seek-treeF (fcons b t f) n s h g =
           ap₂ (λ x y. cond (within b q) x y) (seek-tree t n b (s .0) (h .0) (paged-left (pages t) (pagesF f) g)) (seek-treeF f n (s .1) (h .1) (paged-right (pages t) (pagesF f) g))

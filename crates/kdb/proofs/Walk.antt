@@ -16,7 +16,7 @@ use Rattle.kdb.specs.Pages.{Ent, recsIn, entsIn}
 use Rattle.kdb.specs.Pool.{domains, rootAt, levelsAt, pagesIn, view, goodLength, goodHeader}
 use Rattle.kdb.specs.Walk.{Spot, spots, Tour, still, readAt, follow, through, isPage, goodPoints, goodRegions, tour, bounded, listWalk, End, rootless, bad, absent, here, Search, ends, spotOf, into, seek, findWalk}
 use Rattle.kdb.specs.Calls.{Call, format, check, place, remove, find, list, Buffers, Outcome, unless, finding, listing, filled, lent, finite, ordered, outcome, windowOf, begins, walkOf}
-use Rattle.kdb.proofs.Lists.{and-l, and-r, and-i, bool, cases, every-append, every-take, every-many, pos, same-eq, each-only, each-append}
+use Rattle.kdb.proofs.Lists.{and-l, and-r, and-i, bool, cases, every-append, every-take, every-many, some-many, same-eq, each-only, each-append}
 
 -- the length of a walk into entries
 into-length : (below : ℕ → Search) (p : Key) (m : ℕ) → ((c : ℕ) → length (below c .read) ≤ m) → (es : List Ent) → length (into below p es .read) ≤ m
@@ -67,7 +67,7 @@ module _ (L : ℕ) (w : List ℕ) where
   pub find-length : (p : Key) → length (findWalk L w p .read) ≤ levelsAt w
   find-length p =
       cases (λ b. length (cond b (ends [] rootless) (seek L w p (levelsAt w - 1) (rootAt w)) .read) ≤ levelsAt w) (eqb (levelsAt w) 0)
-      (λ _. omega arith) (λ h. omega (arith, pos (levelsAt w) h, seek-length p (levelsAt w - 1) (rootAt w)))
+      (λ _. omega arith) (λ h. omega (arith, some-many (levelsAt w) h, seek-length p (levelsAt w - 1) (rootAt w)))
 
   tour-pages : (v : Box) (n j : ℕ) → T (every (isPage L w) (tour L w v n j .read))
   tour-pages v zero j =
