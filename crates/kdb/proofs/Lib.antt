@@ -13,5 +13,6 @@ pub mod Walk
 pub mod Local
 pub mod History
 pub mod Pool
+pub mod Reading
 pub mod Cases
 pub mod Sessions

@@ -517,3 +517,25 @@ pub getD-in : (g : ℕ → Bool) (l : List ℕ) (i : ℕ) → i < length l → T
 getD-in g [] i h t = absurd (omega arith)
 getD-in g (a ∷ l) zero h t = omega (arith, to-bit (g a) t)
 getD-in g (a ∷ l) (suc i) h t = omega (arith, getD-in g l i (omega arith) t)
+
+-- different numbers from 1 to N − 1: at most N − 1, and as many as pass a test that counts them
+pub once-length : (N : ℕ) (l : List ℕ) → ((c : ℕ) → 1 ≤ many c l → (1 ≤ c) × (c < N)) → ((c : ℕ) → many c l ≤ 1) → length l ≤ N - 1
+once-length N l h k = few l (N - 1) 1 (record { is = λ c i. let q = h c i in (q .0, omega arith) }) k
+
+sum-bits : (f : ℕ → ℕ) (g : ℕ → Bool) → ((j : ℕ) → f j ≡ bit (g j)) → (l : List ℕ) → sum (map f l) ≡ tally g l
+sum-bits f g h [] = refl
+sum-bits f g h (a ∷ l) = omega (arith, h a, sum-bits f g h l)
+
+pub once-tally : (N : ℕ) (l : List ℕ) (g : ℕ → Bool) → ((c : ℕ) → 1 ≤ many c l → (1 ≤ c) × (c < N)) → ((c : ℕ) → many c l ≡ bit (g c)) → length l ≡ tally g (upFrom (N - 1) 1)
+once-tally N l g h k =
+    sym (sum-many l (N - 1) 1 (record { is = λ c i. let q = h c i in (q .0, omega arith) })) ∙ sum-bits (λ j. many j l) g k (upFrom (N - 1) 1)
+
+-- a property of every element, kept by parts and joins
+module _ {ℓ} {A : Type ℓ} where
+  pub each-only : (P : A → Type 0) (f : A → Bool) (l : List A) → Each P l → Each P (only f l)
+  each-only P f [] h = tt
+  each-only P f (a ∷ l) h = cases (λ b. Each P (cond b (a ∷ only f l) (only f l))) (f a) (λ _. (h .0, each-only P f l (h .1))) (λ _. each-only P f l (h .1))
+
+  pub each-append : (P : A → Type 0) (l m : List A) → Each P l → Each P m → Each P (l ++ m)
+  each-append P [] m h k = k
+  each-append P (a ∷ l) m h k = (h .0, each-append P l m (h .1) k)

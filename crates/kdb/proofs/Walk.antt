@@ -2,20 +2,26 @@
 -- a call returns is its walk's length.
 use mathlib.Core.Bool.{Bool, true, false, _&&_, cond}
 use mathlib.Core.List.{List, [], _∷_, _++_}
+use mathlib.Core.List.{List, [], _∷_, _++_, append-assoc}
 use mathlib.Core.Path.{_≡_, refl, sym, ap, _∙_}
 use Prim.Native.Nat.{ℕ, zero, suc, _+_, _-_, _*_, _<_, _≤_}
 use native.Mathlib.Omega.{arith}
 use lib.Dec.{T, leb, ltb, eqb, leb→le, ltb→lt}
-use lib.ListN.{length, take, getD, length-take}
+use lib.ListN.{length, take, getD, length-take, length-append}
+use lib.Seq.{getD-at}
 use borrow.Author.Tests.{ne-eqb}
-use Rattle.kdb.specs.Lists.{bit, every, many}
+use Rattle.kdb.specs.Lists.{bit, every, Each, many, same}
 use Rattle.kdb.specs.Box.{Box, Key, within, meets}
-use Rattle.kdb.specs.Pages.{Ent, entsIn}
+use Rattle.kdb.specs.Tree.{Rec}
+use Rattle.kdb.specs.Pages.{Ent, recsIn, entsIn}
 use Rattle.kdb.specs.Pool.{domains, rootAt, levelsAt, pagesIn, view, goodLength, goodHeader}
 use Rattle.kdb.specs.Walk.{Spot, Tour, still, readAt, follow, through, isPage, goodPoints, goodRegions, tour, bounded, listWalk, End, rootless, bad, absent, here, Search, ends, into, seek, findWalk}
 use Rattle.kdb.proofs.Calls.{done}
 use Rattle.kdb.specs.Calls.{Call, format, check, place, remove, find, list, Buffers, Outcome, finding, listing, filled, lent, finite, ordered, outcome, windowOf, begins, walkOf}
 use Rattle.kdb.proofs.Lists.{and-l, and-r, and-i, bool, cases, is-true, every-append, every-take, every-many, pos}
+use Rattle.kdb.specs.Walk.{Spot, spots, Tour, still, readAt, follow, through, isPage, goodPoints, goodRegions, tour, bounded, listWalk, End, rootless, bad, absent, here, Search, ends, spotOf, into, seek, findWalk}
+use Rattle.kdb.specs.Calls.{Call, format, check, place, remove, find, list, Buffers, Outcome, unless, finding, listing, filled, lent, finite, ordered, outcome, windowOf, begins, walkOf}
+use Rattle.kdb.proofs.Lists.{and-l, and-r, and-i, bool, cases, every-append, every-take, every-many, some-many, same-eq, each-only, each-append}
 
 -- the length of a walk into entries
 into-length : (below : ℕ → Search) (p : Key) (m : ℕ) → ((c : ℕ) → length (below c .read) ≤ m) → (es : List Ent) → length (into below p es .read) ≤ m
@@ -66,7 +72,7 @@ module _ (L : ℕ) (w : List ℕ) where
   pub find-length : (p : Key) → length (findWalk L w p .read) ≤ levelsAt w
   find-length p =
       cases (λ b. length (cond b (ends [] rootless) (seek L w p (levelsAt w - 1) (rootAt w)) .read) ≤ levelsAt w) (eqb (levelsAt w) 0)
-      (λ _. omega arith) (λ h. omega (arith, pos (levelsAt w) h, seek-length p (levelsAt w - 1) (rootAt w)))
+      (λ _. omega arith) (λ h. omega (arith, some-many (levelsAt w) h, seek-length p (levelsAt w - 1) (rootAt w)))
 
   tour-pages : (v : Box) (n j : ℕ) → T (every (isPage L w) (tour L w v n j .read))
   tour-pages v zero j =
@@ -176,3 +182,90 @@ list-returns w v answer z =
         × (listing (record { read = read; bad = m; found = found }) w answer .after .answer ≡ filled answer found)
     go read true found z = absurd (omega arith)
     go read false found z = (refl, refl, refl)
+    go : (a b c d e : Bool) (read : List ℕ) (z : Bool) (found : List Spot) (bs : Buffers)
+        → unless a 1 bs (unless b 6 bs (unless c 3 bs (unless d 4 bs (unless e 5 bs (listing (record { read = read; bad = z; found = found }) w answer))))) .number ≡ 0
+        → (z ≡ false)
+        × (unless a 1 bs (unless b 6 bs (unless c 3 bs (unless d 4 bs (unless e 5 bs (listing (record { read = read; bad = z; found = found }) w answer))))) .values
+        ≡ length found ∷ length (cond (a && b && c && d && e) read []) ∷ [])
+        × (unless a 1 bs (unless b 6 bs (unless c 3 bs (unless d 4 bs (unless e 5 bs (listing (record { read = read; bad = z; found = found }) w answer))))) .after .answer
+        ≡ filled answer found)
+    go false b c d e read z found bs q = absurd (omega arith)
+    go true false c d e read z found bs q = absurd (omega arith)
+    go true true false d e read z found bs q = absurd (omega arith)
+    go true true true false e read z found bs q = absurd (omega arith)
+    go true true true true false read z found bs q = absurd (omega arith)
+    go true true true true true read true found bs q = absurd (omega arith)
+    go true true true true true read false found bs q = (refl, refl, refl)
+
+-- the spot's page holds the record in the spot's slot
+pub record Named (L : ℕ) (w : List ℕ) (x : Spot) : Type 0 where
+  pub slot : x .slot < length (recsIn (view L w (x .page)))
+  pub holds : (d : Rec) → getD (recsIn (view L w (x .page))) (x .slot) d ≡ x .rec
+
+-- the walk's end, if it is at a record, is at one with the property
+abbrev pub Ends : (Spot → Type 0) → End → Type 0
+Ends P rootless = Unit {0}
+Ends P bad = Unit {0}
+Ends P (absent j) = Unit {0}
+Ends P (here x) = P x
+
+spots-named : (L : ℕ) (w : List ℕ) (j i : ℕ) (pre rs : List Rec) → length pre ≡ i → pre ++ rs ≡ recsIn (view L w j) → Each (Named L w) (spots j i rs)
+spots-named L w j i pre [] h e = tt
+spots-named L w j i pre (r ∷ rs) h e = (
+  record { slot = omega (arith, ap length e, length-append pre (r ∷ rs)); holds = λ d. ap (λ l. getD l i d) (sym e) ∙ getD-at pre r rs d i h },
+  spots-named L w j (suc i) (pre ++ (r ∷ [])) rs (omega (arith, length-append pre (r ∷ []))) (append-assoc pre (r ∷ []) rs ∙ e),
+)
+
+module _ (P : Spot → Type 0) where
+  follow-each : (a b : Tour) → Each P (a .found) → Each P (b .found) → Each P (follow a b .found)
+  follow-each a b h k =
+      cases (λ z. Each P (cond z a (record { read = a .read ++ b .read; bad = b .bad; found = a .found ++ b .found }) .found)) (a .bad)
+      (λ _. h) (λ _. each-append P (a .found) (b .found) h k)
+
+  through-each : (below : ℕ → Tour) (v : Box) → ((c : ℕ) → Each P (below c .found)) → (es : List Ent) → Each P (through below v es .found)
+  through-each below v h [] = tt
+  through-each below v h (e ∷ es) =
+      follow-each (cond (meets (e .box) v) (below (e .child)) still) (through below v es)
+      (cases (λ b. Each P (cond b (below (e .child)) still .found)) (meets (e .box) v) (λ _. h (e .child)) (λ _. tt)) (through-each below v h es)
+
+  spot-ends : (j : ℕ) (p : Key) (ss : List Spot) → Each P ss → Ends (λ x. P x × (x .rec .key ≡ p)) (spotOf j p ss)
+  spot-ends j p [] h = tt
+  spot-ends j p (s ∷ ss) h =
+      cases (λ b. Ends (λ x. P x × (x .rec .key ≡ p)) (cond b (here s) (spotOf j p ss))) (same p (s .rec .key))
+      (λ t. (h .0, sym (same-eq p (s .rec .key) t))) (λ _. spot-ends j p ss (h .1))
+
+  into-ends : (below : ℕ → Search) (p : Key) → ((c : ℕ) → Ends P (below c .end)) → (es : List Ent) → Ends P (into below p es .end)
+  into-ends below p h [] = tt
+  into-ends below p h (e ∷ es) =
+      cases (λ b. Ends P (cond b (below (e .child)) (into below p es) .end)) (within (e .box) p) (λ _. h (e .child)) (λ _. into-ends below p h es)
+
+module _ (L : ℕ) (w : List ℕ) where
+  tour-named : (v : Box) (n j : ℕ) → Each (Named L w) (tour L w v n j .found)
+  tour-named v zero j =
+      at-page (λ (t : Tour). Each (Named L w) (t .found)) (isPage L w j) (goodPoints L w j) _ _ _
+      (λ _. each-only (Named L w) _ (spots j 0 (recsIn (view L w j))) (spots-named L w j 0 [] (recsIn (view L w j)) refl refl)) (λ _. tt) tt
+  tour-named v (suc n) j =
+      at-page (λ (t : Tour). Each (Named L w) (t .found)) (isPage L w j) (goodRegions L w j) _ _ _
+      (λ _. through-each (Named L w) (tour L w v n) v (tour-named v n) (entsIn (view L w j))) (λ _. tt) tt
+
+  seek-named : (p : Key) (n j : ℕ) → Ends (λ x. Named L w x × (x .rec .key ≡ p)) (seek L w p n j .end)
+  seek-named p zero j =
+      at-page (λ (s : Search). Ends (λ x. Named L w x × (x .rec .key ≡ p)) (s .end)) (isPage L w j) (goodPoints L w j) _ _ _
+      (λ _. spot-ends (Named L w) j p (spots j 0 (recsIn (view L w j))) (spots-named L w j 0 [] (recsIn (view L w j)) refl refl)) (λ _. tt) tt
+  seek-named p (suc n) j =
+      at-page (λ (s : Search). Ends (λ x. Named L w x × (x .rec .key ≡ p)) (s .end)) (isPage L w j) (goodRegions L w j) _ _ _
+      (λ _. into-ends (λ x. Named L w x × (x .rec .key ≡ p)) (seek L w p n) p (seek-named p n) (entsIn (view L w j))) (λ _. tt) tt
+
+  -- what a walk finds stands where it says, on any words
+  pub list-named : (v : Box) → Each (Named L w) (listWalk L w v .found)
+  list-named v =
+      let N = pagesIn L w in
+      let t = tour L w v (levelsAt w - 1) (rootAt w) in
+      cases (λ b. Each (Named L w) (cond b still (bounded L w N t) .found)) (eqb (levelsAt w) 0) (λ _. tt)
+      (λ _. cases (λ b. Each (Named L w) (cond b t (record { read = take (N - 1) (t .read); bad = true; found = [] }) .found)) (ltb (length (t .read)) N)
+      (λ _. tour-named v (levelsAt w - 1) (rootAt w)) (λ _. tt))
+
+  pub find-named : (p : Key) → Ends (λ x. Named L w x × (x .rec .key ≡ p)) (findWalk L w p .end)
+  find-named p =
+      cases (λ b. Ends (λ x. Named L w x × (x .rec .key ≡ p)) (cond b (ends [] rootless) (seek L w p (levelsAt w - 1) (rootAt w)) .end)) (eqb (levelsAt w) 0)
+      (λ _. tt) (λ _. seek-named p (levelsAt w - 1) (rootAt w))
