@@ -182,20 +182,6 @@ list-returns w v answer z =
         × (listing (record { read = read; bad = m; found = found }) w answer .after .answer ≡ filled answer found)
     go read true found z = absurd (omega arith)
     go read false found z = (refl, refl, refl)
-    go : (a b c d e : Bool) (read : List ℕ) (z : Bool) (found : List Spot) (bs : Buffers)
-        → unless a 1 bs (unless b 6 bs (unless c 3 bs (unless d 4 bs (unless e 5 bs (listing (record { read = read; bad = z; found = found }) w answer))))) .number ≡ 0
-        → (z ≡ false)
-        × (unless a 1 bs (unless b 6 bs (unless c 3 bs (unless d 4 bs (unless e 5 bs (listing (record { read = read; bad = z; found = found }) w answer))))) .values
-        ≡ length found ∷ length (cond (a && b && c && d && e) read []) ∷ [])
-        × (unless a 1 bs (unless b 6 bs (unless c 3 bs (unless d 4 bs (unless e 5 bs (listing (record { read = read; bad = z; found = found }) w answer))))) .after .answer
-        ≡ filled answer found)
-    go false b c d e read z found bs q = absurd (omega arith)
-    go true false c d e read z found bs q = absurd (omega arith)
-    go true true false d e read z found bs q = absurd (omega arith)
-    go true true true false e read z found bs q = absurd (omega arith)
-    go true true true true false read z found bs q = absurd (omega arith)
-    go true true true true true read true found bs q = absurd (omega arith)
-    go true true true true true read false found bs q = (refl, refl, refl)
 
 -- the spot's page holds the record in the spot's slot
 pub record Named (L : ℕ) (w : List ℕ) (x : Spot) : Type 0 where
