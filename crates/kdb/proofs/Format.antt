@@ -1,0 +1,45 @@
+-- A formatted pool is the printed form of the state with no tree.
+use mathlib.Core.List.{List, [], _∷_, _++_}
+use mathlib.Core.Option.{none}
+use mathlib.Core.Path.{_≡_, refl, sym, ap, ap₂, _∙_}
+use Prim.Native.Nat.{ℕ, zero, suc, _+_, _-_, _*_, _<_, _≤_}
+use native.Mathlib.Omega.{arith}
+use native.Mathlib.Nat.{mul-suc, mul-zero}
+use lib.Dec.{T, leb, leb→le}
+use lib.ListN.{length, replicate, replicate-append-replicate}
+use Rattle.kdb.specs.Lists.{gather, upFrom, pad}
+use Rattle.kdb.specs.Pages.{blank, printPage}
+use Rattle.kdb.specs.Shape.{WellFormed, Numbered}
+use Rattle.kdb.specs.Pool.{pagesIn, goodLength}
+use Rattle.kdb.specs.Print.{printed}
+use Rattle.kdb.specs.Calls.{L, goodDomains, formatted}
+use Rattle.kdb.proofs.Lists.{and-l, and-r}
+use Rattle.kdb.proofs.Pool.{length-iff}
+
+pad-none : (n : ℕ) → pad n [] ≡ replicate n 0
+pad-none zero = refl
+pad-none (suc n) = ap (λ l. 0 ∷ l) (pad-none n)
+
+-- n free pages
+free-pages : (M n a : ℕ) → gather (λ c. printPage M blank) (upFrom n a) ≡ replicate (M * n) 0
+free-pages M zero a = ap (λ m. replicate m 0) (sym (mul-zero M))
+free-pages M (suc n) a =
+    let e : M + M * n ≡ M * suc n = omega (arith, mul-suc M n) in
+    ap₂ _++_ (pad-none M) (free-pages M n (suc a)) ∙ (replicate-append-replicate M (M * n) 0 ∙ ap (λ m. replicate m 0) e)
+
+pub formatted-printed : (w : List ℕ) (k : ℕ) → T (goodLength L w) → formatted w k ≡ printed L k (pagesIn L w) none
+formatted-printed w k h =
+    let g = length-iff L w .0 h in
+    let N = pagesIn L w in
+    let e : 30 + L * (N - 1) ≡ length w - 2 = omega (arith, g .long, g .least) in
+    sym (ap₂ (λ a b. k ∷ N ∷ (a ++ b)) (pad-none 30) (free-pages L (N - 1) 1) ∙ (ap (λ l. k ∷ N ∷ l) (replicate-append-replicate 30 (L * (N - 1)) 0) ∙ ap (λ m. k ∷ N ∷ replicate m 0) e))
+
+pub none-formed : (w : List ℕ) (k : ℕ) → T (goodLength L w) → T (goodDomains k) → WellFormed L k (pagesIn L w) none
+none-formed w k h d =
+    let g = length-iff L w .0 h in
+    record {
+      domains = (leb→le 1 k (and-l (leb 1 k) _ d), leb→le k 4 (and-r (leb 1 k) _ d));
+      pages = (g .least, g .most);
+      numbered = record { inside = λ c i. absurd (omega arith); once = λ c. omega arith };
+      shape = tt;
+    }
