@@ -256,3 +256,148 @@ stands-header L big w (some t) h =
       both = rw (ne-eqb (rootAt w) 0 (λ z. omega (arith, h .root)), ne-eqb (levelsAt w) 0 (λ z. omega (arith, h .levels)));
       zeros = stands-zeros L big w (some t) h;
     }
+
+-- the test of a sound pool passes exactly if the state that the words say stands in them
+pub print-sound : (L k N : ℕ) (s : State) → 5 ≤ L → WellFormed L k N s → T (sound L (printed L k N s))
+unfolding sound
+print-sound L k N s big wf =
+    let w = printed L k N s in
+    let h = stands L k N s big wf in
+    let e = stands-state L w s h in
+    and-4i (goodLength L w) (goodHeader L w) _ _ (length-iff L w .1 (stands-long L big w s h)) (header-iff L w .1 (stands-header L big w s h))
+    (rw e (formed-iff L (domains w) (pagesIn L w) s .1 (h .formed)))
+    (subst (λ v. T (same w v)) (h .prints ∙ ap (printed L (domains w) (pagesIn L w)) (sym e)) (same-refl w))
+
+-- words that are the printed form of the state that they say
+stands-printed : (L : ℕ) → 5 ≤ L → (w : List ℕ) (s : State) → WellFormed L (domains w) (pagesIn L w) s → w ≡ printed L (domains w) (pagesIn L w) s → Stands L w s
+stands-printed L big w s wf e = subst (λ v. Stands L v s) (sym e) (stands L (domains w) (pagesIn L w) s big wf)
+
+pub sound-stands : (L : ℕ) → 5 ≤ L → (w : List ℕ) → T (sound L w) → Stands L w (stateOf L w)
+unfolding sound
+sound-stands L big w h =
+    let q = and-4 (goodLength L w) (goodHeader L w) (wellFormed L (domains w) (pagesIn L w) (stateOf L w)) _ h in
+    stands-printed L big w (stateOf L w) (formed-iff L (domains w) (pagesIn L w) (stateOf L w) .0 (q .2)) (same-eq w (printed L (domains w) (pagesIn L w) (stateOf L w)) (q .3))
+
+-- the pages reached are the tree's
+module _ (L : ℕ) (w : List ℕ) where
+  reached-forest : (n : ℕ) → ((j : ℕ) → reachedFrom L w n j ≡ pages (treeAt L w n j)) → (es : List Ent) → gather (λ e. reachedFrom L w n (e .child)) es ≡ pagesF (forest (treeAt L w n) es)
+  reached-forest n h [] = refl
+  reached-forest n h (e ∷ es) = ap₂ _++_ (h (e .child)) (reached-forest n h es)
+
+  pub reached-tree : (n j : ℕ) → reachedFrom L w n j ≡ pages (treeAt L w n j)
+  reached-tree zero j = refl
+  reached-tree (suc n) j = ap (λ l. j ∷ l) (reached-forest n (reached-tree n) (entsIn (view L w j)))
+
+  pub reached-pages : (s : State) → Stands L w s → reached L w ≡ pagesOf s
+  reached-pages none h = rw (h .levels)
+  reached-pages (some t) h =
+      let e : eqb (levelsAt w) 0 ≡ false = ne-eqb (levelsAt w) 0 (λ z. let p = some-levels t in omega (arith, h .levels)) in
+      rw e (reached-tree (levelsAt w - 1) (rootAt w) ∙ ap pages (stands-tree L w t h))
+
+-- the pages of a shaped tree, by its own region
+module _ (k R P : ℕ) (v : ℕ → Page) where
+  own-together : (t : Tree) (n : ℕ) (r : Box) → Shaped k R P t n r → Seen v t → T (isRegions (v (root t))) → Together r (boxesIn (v (root t)))
+  own-together (leaf p d rs) n r s e i = absurd (subst (λ a. T (isRegions a)) e i)
+  own-together (node p d f) zero r s e i = absurd s
+  own-together (node p d f) (suc n) r s e i = subst (Together r) (sym (ap boxesIn (e .0) ∙ boxes-ents f)) (s .0 .tiled .together)
+
+  own-inside : (t : Tree) (n : ℕ) (r : Box) → Shaped k R P t n r → Seen v t → T (every (λ q. within r (q .key)) (recsIn (v (root t))))
+  own-inside (leaf p d rs) n r s e = rw e (s .1 .inside)
+  own-inside (node p d f) n r s e = rw (e .0) tt
+
+  below-together : (f : Forest) (n : ℕ) → ShapedF k R P f n → SeenF v f → Each (λ e. T (isRegions (v (e .child))) → Together (e .box) (boxesIn (v (e .child)))) (ents f)
+  below-together fnil n s e = tt
+  below-together (fcons b t f) n s e = (own-together t n b (s .0) (e .0), below-together f n (s .1) (e .1))
+
+  below-inside : (f : Forest) (n : ℕ) → ShapedF k R P f n → SeenF v f → Each (λ e. T (every (λ q. within (e .box) (q .key)) (recsIn (v (e .child))))) (ents f)
+  below-inside fnil n s e = tt
+  below-inside (fcons b t f) n s e = (own-inside t n b (s .0) (e .0), below-inside f n (s .1) (e .1))
+
+module _ (k R P L : ℕ) (w : List ℕ) where
+  mutual
+    seen-paths : (t : Tree) (n : ℕ) (r : Box) → Shaped k R P t n r → Seen (view L w) t → Paths L w n (root t)
+    seen-paths (leaf p d rs) zero r s e = rw e tt
+    seen-paths (leaf p d rs) (suc n) r s e = absurd (omega (arith, s .0))
+    seen-paths (node p d f) zero r s e = absurd s
+    seen-paths (node p d f) (suc n) r s e = rw (e .0) (tt, seen-pathsF f n (s .1) (e .1))
+
+    seen-pathsF : (f : Forest) (n : ℕ) → ShapedF k R P f n → SeenF (view L w) f → Each (λ e. Paths L w n (e .child)) (ents f)
+    seen-pathsF fnil n s e = tt
+    seen-pathsF (fcons b t f) n s e = (seen-paths t n b (s .0) (e .0), seen-pathsF f n (s .1) (e .1))
+
+-- by cases on page j of a pool in which a state stands
+module _ (L : ℕ) (w : List ℕ) where
+  abbrev k : ℕ
+  k = domains w
+
+  abbrev R : ℕ
+  R = regionsPer L (domains w)
+
+  abbrev P : ℕ
+  P = pointsPer L (domains w)
+
+  view-case : (Q : Page → Type 0) → Q blank → ((d : ℕ) (rs : List Rec) (r : Box) → Under k r → PointPage k P d rs r → Q (points d rs))
+      → ((d : ℕ) (f : Forest) (n : ℕ) (r : Box) → Under k r → RegionPage k R d (boxes f) r → ShapedF k R P f n → SeenF (view L w) f → Q (regions d (ents f)))
+      → (s : State) → Stands L w s → (j : ℕ) → Q (view L w j)
+  view-case Q free onPoints onRegions none h j = subst Q (sym (h .views j)) free
+  view-case Q free onPoints onRegions (some t) h j =
+      subst Q (sym (h .views j))
+      (page-case k R P (view L w) Q free onPoints onRegions t (levels t - 1) (whole k) (whole-under k) (h .formed .shape) (stands-seen L w t h) j)
+
+  stands-used : (s : State) → Stands L w s → (j : ℕ) → T (inUse (view L w j)) ↔ (1 ≤ many j (reached L w))
+  stands-used none h j =
+      (λ u. absurd (subst (λ a. T (inUse a)) (h .views j) u), λ i. absurd (let z : 1 ≤ 0 = rw (reached-pages L w none h) at i in omega arith))
+  stands-used (some t) h j =
+      let e = reached-pages L w (some t) h in
+      (λ u. rw e (in-use t j (subst (λ a. T (inUse a)) (h .views j) u)), λ i. subst (λ a. T (inUse a)) (sym (h .views j)) (page-in t j (rw e at i)))
+
+  stands-paths : (s : State) → Stands L w s → (levelsAt w ≡ 0 → ⊥) → Paths L w (levelsAt w - 1) (rootAt w)
+  stands-paths none h z = absurd (z (h .levels))
+  stands-paths (some t) h z = rw (h .levels, h .root) (seen-paths k R P L w t (levels t - 1) (whole k) (h .formed .shape) (stands-seen L w t h))
+
+  stands-space : (s : State) → Stands L w s → T (isRegions (view L w (rootAt w))) → Together (whole k) (boxesIn (view L w (rootAt w)))
+  stands-space none h i = absurd (subst (λ a. T (isRegions a)) (h .views (rootAt w)) i)
+  stands-space (some t) h i =
+      let g = own-together k R P (view L w) t (levels t - 1) (whole k) (h .formed .shape) (stands-seen L w t h) in
+      rw (h .root) (g (rw (h .root) at i))
+
+  stands-counted : (s : State) → Stands L w s → countAt w ≡ sum (map (λ j. length (recsIn (view L w j))) (numbers L w))
+  stands-counted s h =
+      h .count ∙ sym (sum-same (recsAt (view L w)) (recsAt (pageAt s)) (λ j. ap (λ a. length (recsIn a)) (h .views j)) (numbers L w) ∙ total s (h .formed))
+    where
+      total : (s : State) → WellFormed L (domains w) (pagesIn L w) s → sum (map (recsAt (pageAt s)) (numbers L w)) ≡ length (recordsOf s)
+      total none f = sum-none (numbers L w)
+      total (some t) f = sum-records t (pagesIn L w - 1) 1 (numbered-ranged (pagesIn L w) (pages t) (f .numbered)) (f .numbered .once)
+
+  stands-rootless : (s : State) → Stands L w s → rootAt w ≡ 0 → (countAt w ≡ 0) × ((j : ℕ) → view L w j ≡ blank)
+  stands-rootless none h z = (h .count, h .views)
+  stands-rootless (some t) h z = absurd (let r = root-page L k (pagesIn L w) t (h .formed) in omega (arith, h .root))
+
+  pub stands-Sound : 5 ≤ L → (s : State) → Stands L w s → Sound L w
+  stands-Sound big s h =
+      record {
+        words = length-iff L w .1 (stands-long L big w s h);
+        header = header-iff L w .1 (stands-header L big w s h);
+        laid = λ j a b. ap (λ v. page L v j) (h .prints) ∙ (print-page L k (pagesIn L w) s big (h .formed) j a b ∙ ap (printPage L) (sym (h .views j)));
+        regionRoom = view-case (λ v. length (entsIn v) ≤ R) (omega arith) (λ d rs r u p. omega arith) (λ d f n r u p q e. rw (ents-boxes f) (p .room)) s h;
+        pointRoom = view-case (λ v. length (recsIn v) ≤ P) (omega arith) (λ d rs r u p. p .room) (λ d f n r u p q e. omega arith) s h;
+        splitting = view-case (λ v. domain v < k) (h .formed .domains .0) (λ d rs r u p. p .domain) (λ d f n r u p q e. p .domain) s h;
+        used = stands-used s h;
+        once = λ j. rw (reached-pages L w s h) (h .formed .numbered .once j);
+        filled = view-case (λ v. T (isRegions v) → 1 ≤ length (entsIn v)) (λ i. absurd i) (λ d rs r u p i. absurd i) (λ d f n r u p q e i. rw (ents-boxes f) (p .filled)) s h;
+        paths = stands-paths s h;
+        apart = view-case (λ v. Apart (boxesIn v)) tt (λ d rs r u p. tt) (λ d f n r u p q e. rw (boxes-ents f) (p .tiled .apart)) s h;
+        solids = view-case (λ v. T (every solid (boxesIn v))) tt (λ d rs r u p. tt) (λ d f n r u p q e. rw (boxes-ents f) (p .tiled .solids)) s h;
+        space = stands-space s h;
+        nested = view-case (λ v. Each (λ e. T (isRegions (view L w (e .child))) → Together (e .box) (boxesIn (view L w (e .child)))) (entsIn v)) tt (λ d rs r u p. tt)
+            (λ d f n r u p q e. below-together k R P (view L w) f n q e) s h;
+        inside = view-case (λ v. Each (λ e. T (every (λ q. within (e .box) (q .key)) (recsIn (view L w (e .child))))) (entsIn v)) tt (λ d rs r u p. tt)
+            (λ d f n r u p q e. below-inside k R P (view L w) f n q e) s h;
+        distinct = view-case (λ v. T (differ (recsIn v))) tt (λ d rs r u p. p .distinct) (λ d f n r u p q e. tt) s h;
+        finite = view-case (λ v. T (every (λ r. every (λ x. ltb x ∞) (r .key)) (recsIn v))) tt
+            (λ d rs r u p. every-each (λ q. T (within r (q .key))) (λ q. every (λ x. ltb x ∞) (q .key)) rs (λ q i. whole-finite k (q .key) (u .keys (q .key) i))
+            (each-every (λ q. T (within r (q .key))) (λ q. within r (q .key)) rs (λ q i. i) (p .inside)))
+            (λ d f n r u p q e. tt) s h;
+        counted = stands-counted s h;
+        rootless = stands-rootless s h;
+      }
