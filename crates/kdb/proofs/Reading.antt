@@ -6,8 +6,9 @@ use mathlib.Core.Option.{Option, none, some}
 use mathlib.Core.Path.{_≡_, refl, sym, ap, ap₂, _∙_, subst}
 use Prim.Native.Nat.{ℕ, zero, suc, _+_, _-_, _<_, _≤_}
 use native.Mathlib.Omega.{arith}
-use lib.Dec.{T, leb, ltb, eqb, le→leb, T-not, not-T}
-use lib.ListN.{length, length-append}
+use lib.Dec.{T, leb, ltb, eqb, le→leb, lt→ltb, T-not, not-T}
+use lib.ListN.{length, take, length-append}
+use borrow.Author.Tests.{lt-ltb, ne-eqb}
 use Rattle.kdb.specs.Lists.{bit, only, tally, every, any, Each, many, same}
 use Rattle.kdb.specs.Box.{Box, Key, sides, whole, within, inWindow, meets}
 use Rattle.kdb.specs.Tree.{Rec, Tree, leaf, node, Forest, fnil, fcons, State, root, boxes, levels, levelsF, pages, pagesF, records, recordsF, pagesOf, recordsOf}
@@ -17,12 +18,12 @@ use Rattle.kdb.specs.Shape.{PointPage, RegionPage, Shaped, ShapedF, Well
 use Rattle.kdb.specs.Pool.{domains, rootAt, levelsAt, pagesIn, view}
 use Rattle.kdb.specs.Print.{ents, orPage, pageOf, pageOfF, pageAt}
 use Rattle.kdb.specs.Walk.{Spot, spots, Tour, still, follow, through, readAt, isPage, goodPoints, goodRegions, tour, bounded, listWalk, End, rootless, bad, absent, here, Search, ends, after, spotOf, into, seek, findWalk}
-use Rattle.kdb.proofs.Lists.{and-i, and-l, and-r, cases, bool-eq, is-true, is-false, of-bit, to-bit, no-bit, self, only-append, every-append, every-imp, tally-append, many-append, same-eq, In, in-head, in-left, in-right, once-tally}
+use Rattle.kdb.proofs.Lists.{and-i, and-l, and-r, cases, bool-eq, is-true, is-false, of-bit, to-bit, no-bit, self, only-append, every-append, every-imp, tally-append, many-append, same-eq, In, in-head, in-left, in-right, once-length, once-tally}
 use Rattle.kdb.proofs.Box.{window-i, window-e, meets-of, at-meet}
 use Rattle.kdb.proofs.Tiling.{tiles-counted}
 use Rattle.kdb.proofs.Views.{Seen, SeenF, ents-boxes}
 use Rattle.kdb.proofs.Stands.{Stands}
-use Rattle.kdb.proofs.Print.{stands-seen}
+use Rattle.kdb.proofs.Print.{some-levels, stands-seen}
 
 -- the tree's walk of a window: the pages read and the records found
 abbrev mutual
@@ -306,3 +307,111 @@ module _ (k R P : ℕ) where
           record { long = a .long; answers = answers-left (records t) (recordsF f) q (seeks t q .end) (none-keyedF f n (s .1) (omega arith)) (a .answers) })
           (λ i e. let a = seeks-endF f n (s .1) (omega arith) in
           record { long = a .long; answers = answers-right (records t) (recordsF f) q (seeksF f q .end) (none-keyed b q (records t) i (all-in t n b (s .0))) (a .answers) }) h
+
+-- the pages read are pages of the tree, none more often than there
+mutual
+  pub reads-most : (t : Tree) (v : Box) (c : ℕ) → many c (reads t v) ≤ many c (pages t)
+  reads-most (leaf p d rs) v c = omega arith
+  reads-most (node p d f) v c = omega (arith, reads-mostF f v c)
+
+  reads-mostF : (f : Forest) (v : Box) (c : ℕ) → many c (readsF f v) ≤ many c (pagesF f)
+  reads-mostF fnil v c = omega arith
+  reads-mostF (fcons b t f) v c =
+      cases (λ z. many c (cond z (reads t v) [] ++ readsF f v) ≤ many c (pages t ++ pagesF f)) (meets b v)
+      (λ _. omega (arith, many-append c (reads t v) (readsF f v), many-append c (pages t) (pagesF f), reads-most t v c, reads-mostF f v c))
+      (λ _. omega (arith, many-append c (pages t) (pagesF f), reads-mostF f v c))
+
+-- the state's walk and search
+abbrev pub walkedS : State → Box → Tour
+walkedS none v = still
+walkedS (some t) v = walked t v
+
+abbrev pub seeksS : State → Key → Search
+seeksS none q = ends [] rootless
+seeksS (some t) q = seeks t q
+
+-- on a pool in which a well-formed state stands
+module _ (L : ℕ) (w : List ℕ) where
+  stands-paged : (s : State) → Stands L w s → Paged L w (pagesOf s)
+  stands-paged s h c i =
+      let q = h .formed .numbered .inside c i in
+      and-i (leb 1 c) (ltb c (pagesIn L w)) (le→leb 1 c (q .0)) (lt→ltb c (pagesIn L w) (q .1))
+
+  root-tour : (v : Box) (t : Tree) → Stands L w (some t) → tour L w v (levelsAt w - 1) (rootAt w) ≡ walked t v
+  root-tour v t h =
+      ap₂ (λ n j. tour L w v (n - 1) j) (h .levels) (h .root)
+      ∙ tour-tree L w v t (levels t - 1) (whole (domains w)) (h .formed .shape) (stands-seen L w t h) (stands-paged (some t) h)
+
+  reads-few : (v : Box) (t : Tree) → Stands L w (some t) → length (reads t v) ≤ pagesIn L w - 1
+  reads-few v t h =
+      once-length (pagesIn L w) (reads t v) (λ c i. h .formed .numbered .inside c (omega (arith, reads-most t v c)))
+      (λ c. omega (arith, reads-most t v c, h .formed .numbered .once c))
+
+  -- list's walk is the state's; the bound never stops it
+  pub list-tree : (v : Box) (s : State) → Stands L w s → listWalk L w v ≡ walkedS s v
+  list-tree v none h = rw (h .levels)
+  list-tree v (some t) h =
+      let N = pagesIn L w in
+      let l : length (reads t v) < N = omega (arith, reads-few v t h, h .formed .pages) in
+      ap (λ z. cond z still (bounded L w N (tour L w v (levelsAt w - 1) (rootAt w)))) (ne-eqb (levelsAt w) 0 (λ e. omega (arith, h .levels, some-levels t)))
+      ∙ ap (λ a. bounded L w N a) (root-tour v t h)
+      ∙ ap (λ z. cond z (walked t v) (record { read = take (N - 1) (reads t v); bad = true; found = [] })) (lt-ltb (length (reads t v)) N l)
+
+  pub find-tree : (q : Key) (s : State) → Stands L w s → findWalk L w q ≡ seeksS s q
+  find-tree q none h = rw (h .levels)
+  find-tree q (some t) h =
+      ap (λ z. cond z (ends [] rootless) (seek L w q (levelsAt w - 1) (rootAt w))) (ne-eqb (levelsAt w) 0 (λ e. omega (arith, h .levels, some-levels t)))
+      ∙ ap₂ (λ n j. seek L w q (n - 1) j) (h .levels) (h .root)
+      ∙ seek-tree L w q t (levels t - 1) (whole (domains w)) (h .formed .shape) (stands-seen L w t h) (stands-paged (some t) h)
+
+  -- list meets no bad page, and finds the records in the window
+  pub list-good : (v : Box) (s : State) → Stands L w s → listWalk L w v .bad ≡ false
+  list-good v none h = ap (λ t. t .bad) (list-tree v none h)
+  list-good v (some t) h = ap (λ t. t .bad) (list-tree v (some t) h)
+
+  pub list-finds : (v : Box) (s : State) → Stands L w s → map (λ x. x .rec) (listWalk L w v .found) ≡ only (λ r. inWindow v (r .key)) (recordsOf s)
+  list-finds v none h = ap (λ t. map (λ x. x .rec) (t .found)) (list-tree v none h)
+  list-finds v (some t) h =
+      let k = domains w in
+      ap (λ t. map (λ x. x .rec) (t .found)) (list-tree v (some t) h)
+      ∙ finds-all k (regionsPer L k) (pointsPer L k) t (levels t - 1) (whole k) v (h .formed .shape)
+
+  -- each page is read once
+  pub list-once : (v : Box) (s : State) → Stands L w s → (c : ℕ) → many c (listWalk L w v .read) ≤ 1
+  list-once v none h c = omega (arith, ap (λ t. many c (t .read)) (list-tree v none h))
+  list-once v (some t) h c = omega (arith, ap (λ t. many c (t .read)) (list-tree v (some t) h), reads-most t v c, h .formed .numbered .once c)
+
+  -- a window of one point reads a page of each level
+  pub list-point : (v : Box) (q : Key) (s : State) → Stands L w s → OnePoint v q → T (within (whole (domains w)) q) → length (listWalk L w v .read) ≡ levelsAt w
+  list-point v q none h o i = ap (λ t. length (t .read)) (list-tree v none h) ∙ sym (h .levels)
+  list-point v q (some t) h o i =
+      let k = domains w in
+      omega (
+        arith,
+        ap (λ t. length (t .read)) (list-tree v (some t) h),
+        h .levels,
+        some-levels t,
+        one-reads k (regionsPer L k) (pointsPer L k) v q o t (levels t - 1) (whole k) (h .formed .shape) i,
+      )
+
+  -- find of a point of the space reads a page of each level, and ends at the record with its keys, exactly if there is one
+  pub find-reads : (q : Key) (s : State) → Stands L w s → T (within (whole (domains w)) q) → length (findWalk L w q .read) ≡ levelsAt w
+  find-reads q none h i = ap (λ g. length (g .read)) (find-tree q none h) ∙ sym (h .levels)
+  find-reads q (some t) h i =
+      let k = domains w in
+      omega (
+        arith,
+        ap (λ g. length (g .read)) (find-tree q (some t) h),
+        h .levels,
+        some-levels t,
+        seeks-end k (regionsPer L k) (pointsPer L k) q t (levels t - 1) (whole k) (h .formed .shape) i .long,
+      )
+
+  pub find-rootless : (q : Key) → Stands L w none → findWalk L w q .end ≡ rootless
+  find-rootless q h = ap (λ g. g .end) (find-tree q none h)
+
+  pub find-answers : (q : Key) (t : Tree) → Stands L w (some t) → T (within (whole (domains w)) q) → Answers (records t) q (findWalk L w q .end)
+  find-answers q t h i =
+      let k = domains w in
+      subst (λ g. Answers (records t) q (g .end)) (sym (find-tree q (some t) h))
+      (seeks-end k (regionsPer L k) (pointsPer L k) q t (levels t - 1) (whole k) (h .formed .shape) i .answers)
