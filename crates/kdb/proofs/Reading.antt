@@ -6,7 +6,7 @@ use mathlib.Core.Option.{Option, none, some}
 use mathlib.Core.Path.{_≡_, refl, sym, ap, ap₂, _∙_, subst}
 use Prim.Native.Nat.{ℕ, zero, suc, _+_, _-_, _<_, _≤_}
 use native.Mathlib.Omega.{arith}
-use lib.Dec.{T, leb, ltb, eqb, le→leb, lt→ltb, T-not, not-T}
+use lib.Dec.{T, leb, ltb, eqb, le→leb, lt→ltb, T-not, not-T, eqb→eq}
 use lib.ListN.{length, take, length-append}
 use borrow.Author.Tests.{lt-ltb, ne-eqb}
 use Rattle.kdb.specs.Lists.{bit, only, tally, every, any, Each, many, same}
@@ -18,10 +18,10 @@ use Rattle.kdb.specs.Shape.{PointPage, RegionPage, Shaped, ShapedF, Well
 use Rattle.kdb.specs.Pool.{domains, rootAt, levelsAt, pagesIn, view}
 use Rattle.kdb.specs.Print.{ents, orPage, pageOf, pageOfF, pageAt}
 use Rattle.kdb.specs.Walk.{Spot, spots, Tour, still, follow, through, readAt, isPage, goodPoints, goodRegions, tour, bounded, listWalk, End, rootless, bad, absent, here, Search, ends, after, spotOf, into, seek, findWalk}
-use Rattle.kdb.proofs.Lists.{and-i, and-l, and-r, cases, bool-eq, is-true, is-false, of-bit, to-bit, no-bit, self, only-append, every-append, every-imp, tally-append, many-append, same-eq, In, in-head, in-left, in-right, once-length, once-tally}
+use Rattle.kdb.proofs.Lists.{and-i, and-l, and-r, bool, cases, bool-eq, is-true, is-false, of-bit, to-bit, no-bit, self, only-append, every-append, every-imp, tally-append, many-append, same-eq, In, in-head, in-left, in-right, once-length, once-tally}
 use Rattle.kdb.proofs.Box.{window-i, window-e, meets-of, at-meet}
 use Rattle.kdb.proofs.Tiling.{tiles-counted}
-use Rattle.kdb.proofs.Views.{Seen, SeenF, ents-boxes}
+use Rattle.kdb.proofs.Views.{Seen, SeenF, ents-boxes, among}
 use Rattle.kdb.proofs.Stands.{Stands}
 use Rattle.kdb.proofs.Print.{some-levels, stands-seen}
 
@@ -320,6 +320,69 @@ mutual
       cases (λ z. many c (cond z (reads t v) [] ++ readsF f v) ≤ many c (pages t ++ pagesF f)) (meets b v)
       (λ _. omega (arith, many-append c (reads t v) (readsF f v), many-append c (pages t) (pagesF f), reads-most t v c, reads-mostF f v c))
       (λ _. omega (arith, many-append c (pages t) (pagesF f), reads-mostF f v c))
+
+-- the region, if there is one, meets the window
+abbrev pub met : Box → Option Box → Bool
+met v none = false
+met v (some r) = meets r v
+
+-- o gives every page of the tree its own region: the one in the entry above it, the tree's own region for its root
+module _ (o : ℕ → Option Box) where
+  abbrev mutual
+    pub Owned : Tree → Box → Type 0
+    Owned (leaf p d rs) r = o p ≡ some r
+    Owned (node p d f) r = (o p ≡ some r) × OwnedF f
+
+    pub OwnedF : Forest → Type 0
+    OwnedF fnil = Unit {0}
+    OwnedF (fcons b t f) = Owned t b × OwnedF f
+
+-- a region that misses the window: so do the regions below it
+below-misses : {b r : Box} {bs : List Box} (v : Box) → Below (b ∷ bs) r → T (not (meets r v)) → T (not (meets b v))
+below-misses {b} {r} v u h =
+    not-T (meets b v) (λ m. let i = at-meet b v m in T-not (meets r v) h (meets-of r v (i .0) (head-below u (i .0) (i .1)) (i .2)))
+
+-- the pages read are those whose own regions meet the window
+module _ (k R P : ℕ) (v : Box) (o : ℕ → Option Box) where
+  met-at : (r : Box) (p j : ℕ) → o p ≡ some r → T (eqb j p) → met v (o j) ≡ meets r v
+  met-at r p j e t = ap (λ c. met v (o c)) (eqb→eq j p t) ∙ ap (met v) e
+
+  mutual
+    own-misses : (t : Tree) (n : ℕ) (r : Box) → Shaped k R P t n r → Owned o t r → T (not (meets r v)) → (j : ℕ) → 1 ≤ many j (pages t) → met v (o j) ≡ false
+    own-misses (leaf p d rs) n r s e m j i =
+        bool (eqb j p) (λ y. met-at r p j e y ∙ is-false (meets r v) m) (λ y. absurd (omega (arith, no-bit (eqb j p) (T-not (eqb j p) y))))
+    own-misses (node p d f) zero r s e m j i = absurd s
+    own-misses (node p d f) (suc n) r s e m j i =
+        bool (eqb j p) (λ y. met-at r p j (e .0) y ∙ is-false (meets r v) m)
+        (λ y. own-missesF f n r (s .1) (e .1) (below (s .0 .tiled)) m j (omega (arith, no-bit (eqb j p) (T-not (eqb j p) y))))
+
+    own-missesF : (f : Forest) (n : ℕ) (r : Box) → ShapedF k R P f n → OwnedF o f → Below (boxes f) r → T (not (meets r v)) → (j : ℕ) → 1 ≤ many j (pagesF f) → met v (o j) ≡ false
+    own-missesF fnil n r s e u m j i = absurd (omega arith)
+    own-missesF (fcons b t f) n r s e u m j i =
+        among j (pages t) (λ y. own-misses t n b (s .0) (e .0) (below-misses v u m) j y)
+        (λ z. own-missesF f n r (s .1) (e .1) (tail-below u) m j (omega (arith, many-append j (pages t) (pagesF f))))
+
+  mutual
+    own-reads : (t : Tree) (n : ℕ) (r : Box) → Shaped k R P t n r → Owned o t r → T (meets r v) → (j : ℕ) → many j (pages t) ≡ 1 → many j (reads t v) ≡ bit (met v (o j))
+    own-reads (leaf p d rs) n r s e m j i =
+        bool (eqb j p) (λ y. omega (arith, ap bit (met-at r p j e y), to-bit (meets r v) m, to-bit (eqb j p) y))
+        (λ y. absurd (omega (arith, no-bit (eqb j p) (T-not (eqb j p) y))))
+    own-reads (node p d f) zero r s e m j i = absurd s
+    own-reads (node p d f) (suc n) r s e m j i =
+        bool (eqb j p) (λ y. omega (arith, ap bit (met-at r p j (e .0) y), to-bit (meets r v) m, to-bit (eqb j p) y, reads-mostF f v j))
+        (λ y. let z = no-bit (eqb j p) (T-not (eqb j p) y) in omega (arith, own-readsF f n (s .1) (e .1) j (omega arith)))
+
+    own-readsF : (f : Forest) (n : ℕ) → ShapedF k R P f n → OwnedF o f → (j : ℕ) → many j (pagesF f) ≡ 1 → many j (readsF f v) ≡ bit (met v (o j))
+    own-readsF fnil n s e j i = absurd (omega arith)
+    own-readsF (fcons b t f) n s e j i =
+        let a = many-append j (pages t) (pagesF f) in
+        among j (pages t)
+        (λ y. cases (λ z. (T z → many j (reads t v) ≡ bit (met v (o j))) → (T (not z) → met v (o j) ≡ false) → many j (cond z (reads t v) [] ++ readsF f v) ≡ bit (met v (o j))) (meets b v)
+        (λ _ g h. omega (arith, g tt, many-append j (reads t v) (readsF f v), reads-mostF f v j)) (λ _ g h. omega (arith, ap bit (h tt), reads-mostF f v j))
+        (λ m. own-reads t n b (s .0) (e .0) m j (omega arith)) (λ m. own-misses t n b (s .0) (e .0) m j y))
+        (λ y. cases (λ z. many j (cond z (reads t v) [] ++ readsF f v) ≡ bit (met v (o j))) (meets b v)
+        (λ _. omega (arith, many-append j (reads t v) (readsF f v), reads-most t v j, own-readsF f n (s .1) (e .1) j (omega arith)))
+        (λ _. own-readsF f n (s .1) (e .1) j (omega arith)))
 
 -- the state's walk and search
 abbrev pub walkedS : State → Box → Tour
