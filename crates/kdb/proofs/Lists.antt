@@ -426,3 +426,13 @@ module _ {ℓ} {A : Type ℓ} where
   pub each-append : (P : A → Type 0) (l m : List A) → Each P l → Each P m → Each P (l ++ m)
   each-append P [] m h k = k
   each-append P (a ∷ l) m h k = (h .0, each-append P l m (h .1) k)
+
+module _ {ℓ} {A : Type ℓ} where
+  pub in-left : (a : A) (l m : List A) → In a l → In a (l ++ m)
+  in-left a l m i = record { counted = λ h t. omega (arith, i .counted h t, tally-append h l m) }
+
+  pub in-right : (a : A) (l m : List A) → In a m → In a (l ++ m)
+  in-right a l m i = record { counted = λ h t. omega (arith, i .counted h t, tally-append h l m) }
+
+  pub every-imp : (f g : A → Bool) → ((a : A) → T (f a) → T (g a)) → (l : List A) → T (every f l) → T (every g l)
+  every-imp f g h l t = in-every g l (λ a m. h a (every-in f a l t m))

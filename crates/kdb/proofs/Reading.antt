@@ -1,29 +1,29 @@
 -- The walks on a sound pool are the tree's: list reads the pages whose own regions meet the window, each once, and finds the records in
 -- it; a window of one point, and find, read one page of each level.
 use mathlib.Core.Bool.{Bool, true, false, _&&_, not, cond}
-use mathlib.Core.List.{List, [], _∷_, _++_, map, append-assoc}
+use mathlib.Core.List.{List, [], _∷_, _++_, map, map-append}
 use mathlib.Core.Option.{Option, none, some}
 use mathlib.Core.Path.{_≡_, refl, sym, ap, ap₂, _∙_, subst}
 use Prim.Native.Nat.{ℕ, zero, suc, _+_, _-_, _<_, _≤_}
 use native.Mathlib.Omega.{arith}
-use lib.Dec.{T, leb, ltb, eqb, le→leb, T-not, eqb→eq, eqb-refl}
-use lib.ListN.{length, length-append}
-use borrow.Author.Tests.{ne-eqb}
+use lib.Dec.{T, leb, ltb, eqb, le→leb, lt→ltb, T-not, not-T, eqb→eq}
+use lib.ListN.{length, take, length-append}
+use borrow.Author.Tests.{lt-ltb, ne-eqb}
 use Rattle.kdb.specs.Lists.{bit, only, tally, every, any, Each, many, same}
-use Rattle.kdb.specs.Box.{Box, Key, whole, within, inWindow, meets}
+use Rattle.kdb.specs.Box.{Box, Key, sides, whole, within, inWindow, meets}
 use Rattle.kdb.specs.Tree.{Rec, Tree, leaf, node, Forest, fnil, fcons, State, root, boxes, levels, levelsF, pages, pagesF, records, recordsF, pagesOf, recordsOf}
-use Rattle.kdb.specs.Tiling.{Disjoint, Apart, Together, Tiles}
+use Rattle.kdb.specs.Tiling.{Tiles, holders}
 use Rattle.kdb.specs.Pages.{Ent, Page, blank, points, regions, recsIn, entsIn, isPoints, isRegions, pointsPer, regionsPer}
 use Rattle.kdb.specs.Shape.{PointPage, RegionPage, Shaped, ShapedF, WellFormed}
 use Rattle.kdb.specs.Pool.{domains, rootAt, levelsAt, pagesIn, view}
 use Rattle.kdb.specs.Print.{ents, orPage, pageOf, pageOfF, pageAt}
 use Rattle.kdb.specs.Walk.{Spot, spots, Tour, still, follow, through, readAt, isPage, goodPoints, goodRegions, tour, bounded, listWalk, End, rootless, bad, absent, here, Search, ends, after, spotOf, into, seek, findWalk}
-use Rattle.kdb.proofs.Lists.{and-i, and-l, and-r, bool, cases, is-true, is-false, of-true, self, to-bit, gate, only-append, every-append, many-append, once-length}
-use Rattle.kdb.proofs.Box.{meets-of, at-meet}
+use Rattle.kdb.proofs.Lists.{and-i, and-l, and-r, bool, cases, bool-eq, is-true, is-false, of-bit, to-bit, no-bit, self, only-append, every-append, every-imp, tally-append, many-append, same-eq, In, in-head, in-left, in-right, once-length, once-tally}
+use Rattle.kdb.proofs.Box.{window-i, window-e, meets-of, at-meet}
 use Rattle.kdb.proofs.Tiling.{tiles-counted}
-use Rattle.kdb.proofs.Views.{Seen, SeenF, ents-boxes}
+use Rattle.kdb.proofs.Views.{Seen, SeenF, ents-boxes, among}
 use Rattle.kdb.proofs.Stands.{Stands}
-use Rattle.kdb.proofs.Print.{stands-seen}
+use Rattle.kdb.proofs.Print.{some-levels, stands-seen}
 
 -- the tree's walk of a window: the pages read and the records found
 abbrev mutual
@@ -134,3 +134,347 @@ module _ (L : ℕ) (w : List ℕ) where
       seek-treeF fnil n s h g = refl
       seek-treeF (fcons b t f) n s h g =
           ap₂ (λ x y. cond (within b q) x y) (seek-tree t n b (s .0) (h .0) (paged-left (pages t) (pagesF f) g)) (seek-treeF f n (s .1) (h .1) (paged-right (pages t) (pagesF f) g))
+
+-- every key of one of the regions is a key of r
+record Below (bs : List Box) (r : Box) : Type 0 where
+  covers : (p : Key) → 1 ≤ holders bs p → T (within r p)
+
+below : {r : Box} {bs : List Box} → Tiles r bs → Below bs r
+below {r} {bs} t = record { covers = λ p h. of-bit (within r p) (omega (arith, tiles-counted r bs t .once p)) }
+
+head-below : {b r : Box} {bs : List Box} → Below (b ∷ bs) r → (p : Key) → T (within b p) → T (within r p)
+head-below {b} u p h = u .covers p (omega (arith, to-bit (within b p) h))
+
+tail-below : {b r : Box} {bs : List Box} → Below (b ∷ bs) r → Below bs r
+tail-below u = record { covers = λ p h. u .covers p (omega arith) }
+
+-- records of a region that misses the window, or lacks the key
+none-in : (b v : Box) (l : List Rec) → T (not (meets b v)) → T (every (λ q. within b (q .key)) l) → only (λ r. inWindow v (r .key)) l ≡ []
+none-in b v [] h a = refl
+none-in b v (r ∷ l) h a =
+    rw (is-false (inWindow v (r .key)) (not-T (inWindow v (r .key)) (λ k. T-not (meets b v) h (meets-of b v (r .key) (and-l (within b (r .key)) _ a) k))))
+    (none-in b v l h (and-r (within b (r .key)) _ a))
+
+none-keyed : (b : Box) (q : Key) (l : List Rec) → T (not (within b q)) → T (every (λ r. within b (r .key)) l) → tally (λ r. same q (r .key)) l ≡ 0
+none-keyed b q [] h a = refl
+none-keyed b q (r ∷ l) h a =
+    omega (
+      arith,
+      no-bit (same q (r .key)) (λ t. T-not (within b q) h (subst (λ k. T (within b k)) (sym (same-eq q (r .key) t)) (and-l (within b (r .key)) _ a))),
+      none-keyed b q l h (and-r (within b (r .key)) _ a),
+    )
+
+-- the records of a page's spots
+spots-only : (g : Key → Bool) (j i : ℕ) (rs : List Rec) → map (λ x. x .rec) (only (λ s. g (s .rec .key)) (spots j i rs)) ≡ only (λ r. g (r .key)) rs
+spots-only g j i [] = refl
+spots-only g j i (r ∷ rs) =
+    cases (λ b. map (λ x. x .rec) (cond b (record { page = j; slot = i; rec = r } ∷ only (λ s. g (s .rec .key)) (spots j (suc i) rs)) (only (λ s. g (s .rec .key)) (spots j (suc i) rs)))
+    ≡ cond b (r ∷ only (λ r. g (r .key)) rs) (only (λ r. g (r .key)) rs)) (g (r .key))
+    (λ _. ap (λ l. r ∷ l) (spots-only g j (suc i) rs)) (λ _. spots-only g j (suc i) rs)
+
+-- where a search of the records for a key may end
+abbrev pub Answers : List Rec → Key → End → Type 0
+Answers rs q rootless = ⊥
+Answers rs q bad = ⊥
+Answers rs q (absent j) = tally (λ r. same q (r .key)) rs ≡ 0
+Answers rs q (here x) = (x .rec .key ≡ q) × In (x .rec) rs
+
+answers-left : (rs ss : List Rec) (q : Key) (e : End) → tally (λ r. same q (r .key)) ss ≡ 0 → Answers rs q e → Answers (rs ++ ss) q e
+answers-left rs ss q rootless h a = a
+answers-left rs ss q bad h a = a
+answers-left rs ss q (absent j) h a = omega (arith, tally-append (λ r. same q (r .key)) rs ss)
+answers-left rs ss q (here x) h a = (a .0, in-left (x .rec) rs ss (a .1))
+
+answers-right : (rs ss : List Rec) (q : Key) (e : End) → tally (λ r. same q (r .key)) rs ≡ 0 → Answers ss q e → Answers (rs ++ ss) q e
+answers-right rs ss q rootless h a = a
+answers-right rs ss q bad h a = a
+answers-right rs ss q (absent j) h a = omega (arith, tally-append (λ r. same q (r .key)) rs ss)
+answers-right rs ss q (here x) h a = (a .0, in-right (x .rec) rs ss (a .1))
+
+spot-answers : (j i : ℕ) (q : Key) (rs : List Rec) → Answers rs q (spotOf j q (spots j i rs))
+spot-answers j i q [] = refl
+spot-answers j i q (r ∷ rs) =
+    cases (λ b. (b ≡ same q (r .key)) → Answers (r ∷ rs) q (cond b (here (record { page = j; slot = i; rec = r })) (spotOf j q (spots j (suc i) rs)))) (same q (r .key))
+    (λ t _. (sym (same-eq q (r .key) t), in-head r rs))
+    (λ t _. answers-right (r ∷ []) rs q (spotOf j q (spots j (suc i) rs)) (omega (arith, no-bit (same q (r .key)) (T-not (same q (r .key)) t))) (spot-answers j (suc i) q rs)) refl
+
+-- a window that holds one point
+pub record OnePoint (v : Box) (q : Key) : Type 0 where
+  pub holds : T (inWindow v q)
+  pub alone : (p : Key) → T (inWindow v p) → p ≡ q
+
+point-meets : (v : Box) (q : Key) → OnePoint v q → (b : Box) → meets b v ≡ within b q
+point-meets v q o b =
+    bool-eq (meets b v) (within b q) (λ m. let i = at-meet b v m in subst (λ p. T (within b p)) (o .alone (i .0) (i .2)) (i .1)) (λ h. meets-of b v q h (o .holds))
+
+pub one-point : (q : Key) → OnePoint (sides q q) q
+one-point q = record { holds = holds q; alone = alone q }
+  where
+    holds : (q : Key) → T (inWindow (sides q q) q)
+    holds [] = tt
+    holds (x ∷ q) = window-i (record { lo = x; hi = x }) x (sides q q) q (omega arith) (omega arith) (holds q)
+
+    alone : (q p : Key) → T (inWindow (sides q q) p) → p ≡ q
+    alone [] [] h = refl
+    alone [] (y ∷ p) h = absurd h
+    alone (x ∷ q) [] h = absurd h
+    alone (x ∷ q) (y ∷ p) h =
+        let i = window-e (record { lo = x; hi = x }) y (sides q q) p h in
+        let e : y ≡ x = omega arith in
+        ap₂ _∷_ e (alone q p (i .2))
+
+-- the tree's walks, for k domains, R regions and P points a page
+module _ (k R P : ℕ) where
+  mutual
+    pub all-in : (t : Tree) (n : ℕ) (r : Box) → Shaped k R P t n r → T (every (λ q. within r (q .key)) (records t))
+    all-in (leaf p d rs) n r s = s .1 .inside
+    all-in (node p d f) zero r s = absurd s
+    all-in (node p d f) (suc n) r s = all-inF f n r (s .1) (below (s .0 .tiled))
+
+    all-inF : (f : Forest) (n : ℕ) (r : Box) → ShapedF k R P f n → Below (boxes f) r → T (every (λ q. within r (q .key)) (recordsF f))
+    all-inF fnil n r s u = tt
+    all-inF (fcons b t f) n r s u =
+        every-append (λ q. within r (q .key)) (records t) (recordsF f)
+        (every-imp (λ q. within b (q .key)) (λ q. within r (q .key)) (λ q. head-below u (q .key)) (records t) (all-in t n b (s .0))) (all-inF f n r (s .1) (tail-below u))
+
+  -- the walk finds the records in the window, in the tree's order
+  mutual
+    pub finds-all : (t : Tree) (n : ℕ) (r v : Box) → Shaped k R P t n r → map (λ x. x .rec) (finds t v) ≡ only (λ r. inWindow v (r .key)) (records t)
+    finds-all (leaf p d rs) n r v s = spots-only (inWindow v) p 0 rs
+    finds-all (node p d f) zero r v s = absurd s
+    finds-all (node p d f) (suc n) r v s = finds-allF f n v (s .1)
+
+    finds-allF : (f : Forest) (n : ℕ) (v : Box) → ShapedF k R P f n → map (λ x. x .rec) (findsF f v) ≡ only (λ r. inWindow v (r .key)) (recordsF f)
+    finds-allF fnil n v s = refl
+    finds-allF (fcons b t f) n v s =
+        map-append (λ x. x .rec) (cond (meets b v) (finds t v) []) (findsF f v)
+        ∙ ap₂ _++_
+        (cases (λ z. map (λ x. x .rec) (cond z (finds t v) []) ≡ only (λ r. inWindow v (r .key)) (records t)) (meets b v)
+        (λ _. finds-all t n b v (s .0)) (λ m. sym (none-in b v (records t) m (all-in t n b (s .0)))))
+        (finds-allF f n v (s .1))
+        ∙ sym (only-append (λ r. inWindow v (r .key)) (records t) (recordsF f))
+
+  -- a window of one point reads one page of each level
+  module _ (v : Box) (q : Key) (o : OnePoint v q) where
+    none-readsF : (f : Forest) → holders (boxes f) q ≡ 0 → length (readsF f v) ≡ 0
+    none-readsF fnil h = refl
+    none-readsF (fcons b t f) h =
+        ap (λ z. length (cond z (reads t v) [] ++ readsF f v)) (point-meets v q o b ∙ is-false (within b q) (not-T (within b q) (λ t. omega (arith, to-bit (within b q) t))))
+        ∙ none-readsF f (omega arith)
+
+    mutual
+      one-reads : (t : Tree) (n : ℕ) (r : Box) → Shaped k R P t n r → T (within r q) → length (reads t v) ≡ suc n
+      one-reads (leaf p d rs) n r s h = ap suc (sym (s .0))
+      one-reads (node p d f) zero r s h = absurd s
+      one-reads (node p d f) (suc n) r s h = ap suc (one-readsF f n (s .1) (tiles-counted r (boxes f) (s .0 .tiled) .once q ∙ to-bit (within r q) h))
+
+      one-readsF : (f : Forest) (n : ℕ) → ShapedF k R P f n → holders (boxes f) q ≡ 1 → length (readsF f v) ≡ suc n
+      one-readsF fnil n s h = absurd (omega arith)
+      one-readsF (fcons b t f) n s h =
+          ap (λ z. length (cond z (reads t v) [] ++ readsF f v)) (point-meets v q o b)
+          ∙ cases (λ z. bit z + holders (boxes f) q ≡ 1 → length (cond z (reads t v) [] ++ readsF f v) ≡ suc n) (within b q)
+          (λ i e. omega (arith, length-append (reads t v) (readsF f v), none-readsF f (omega arith), one-reads t n b (s .0) i)) (λ _ e. one-readsF f n (s .1) (omega arith)) h
+
+  -- the search reads one page of each level, and ends at the record with the key exactly if there is one
+  module _ (q : Key) where
+    none-keyedF : (f : Forest) (n : ℕ) → ShapedF k R P f n → holders (boxes f) q ≡ 0 → tally (λ r. same q (r .key)) (recordsF f) ≡ 0
+    none-keyedF fnil n s h = refl
+    none-keyedF (fcons b t f) n s h =
+        omega (
+          arith,
+          tally-append (λ r. same q (r .key)) (records t) (recordsF f),
+          none-keyed b q (records t) (not-T (within b q) (λ t. omega (arith, to-bit (within b q) t))) (all-in t n b (s .0)),
+          none-keyedF f n (s .1) (omega arith),
+        )
+
+    record Ended (rs : List Rec) (n : ℕ) (g : Search) : Type 0 where
+      long : length (g .read) ≡ suc n
+      answers : Answers rs q (g .end)
+
+    mutual
+      seeks-end : (t : Tree) (n : ℕ) (r : Box) → Shaped k R P t n r → T (within r q) → Ended (records t) n (seeks t q)
+      seeks-end (leaf p d rs) n r s h = record { long = ap suc (sym (s .0)); answers = spot-answers p 0 q rs }
+      seeks-end (node p d f) zero r s h = absurd s
+      seeks-end (node p d f) (suc n) r s h =
+          let i = seeks-endF f n (s .1) (tiles-counted r (boxes f) (s .0 .tiled) .once q ∙ to-bit (within r q) h) in
+          record { long = ap suc (i .long); answers = i .answers }
+
+      seeks-endF : (f : Forest) (n : ℕ) → ShapedF k R P f n → holders (boxes f) q ≡ 1 → Ended (recordsF f) n (seeksF f q)
+      seeks-endF fnil n s h = absurd (omega arith)
+      seeks-endF (fcons b t f) n s h =
+          cases (λ z. bit z + holders (boxes f) q ≡ 1 → Ended (records t ++ recordsF f) n (cond z (seeks t q) (seeksF f q))) (within b q)
+          (λ i e. let a = seeks-end t n b (s .0) i in
+          record { long = a .long; answers = answers-left (records t) (recordsF f) q (seeks t q .end) (none-keyedF f n (s .1) (omega arith)) (a .answers) })
+          (λ i e. let a = seeks-endF f n (s .1) (omega arith) in
+          record { long = a .long; answers = answers-right (records t) (recordsF f) q (seeksF f q .end) (none-keyed b q (records t) i (all-in t n b (s .0))) (a .answers) }) h
+
+-- the pages read are pages of the tree, none more often than there
+mutual
+  pub reads-most : (t : Tree) (v : Box) (c : ℕ) → many c (reads t v) ≤ many c (pages t)
+  reads-most (leaf p d rs) v c = omega arith
+  reads-most (node p d f) v c = omega (arith, reads-mostF f v c)
+
+  reads-mostF : (f : Forest) (v : Box) (c : ℕ) → many c (readsF f v) ≤ many c (pagesF f)
+  reads-mostF fnil v c = omega arith
+  reads-mostF (fcons b t f) v c =
+      cases (λ z. many c (cond z (reads t v) [] ++ readsF f v) ≤ many c (pages t ++ pagesF f)) (meets b v)
+      (λ _. omega (arith, many-append c (reads t v) (readsF f v), many-append c (pages t) (pagesF f), reads-most t v c, reads-mostF f v c))
+      (λ _. omega (arith, many-append c (pages t) (pagesF f), reads-mostF f v c))
+
+-- the region, if there is one, meets the window
+abbrev pub met : Box → Option Box → Bool
+met v none = false
+met v (some r) = meets r v
+
+-- o gives every page of the tree its own region: the one in the entry above it, the tree's own region for its root
+module _ (o : ℕ → Option Box) where
+  abbrev mutual
+    pub Owned : Tree → Box → Type 0
+    Owned (leaf p d rs) r = o p ≡ some r
+    Owned (node p d f) r = (o p ≡ some r) × OwnedF f
+
+    pub OwnedF : Forest → Type 0
+    OwnedF fnil = Unit {0}
+    OwnedF (fcons b t f) = Owned t b × OwnedF f
+
+-- a region that misses the window: so do the regions below it
+below-misses : {b r : Box} {bs : List Box} (v : Box) → Below (b ∷ bs) r → T (not (meets r v)) → T (not (meets b v))
+below-misses {b} {r} v u h =
+    not-T (meets b v) (λ m. let i = at-meet b v m in T-not (meets r v) h (meets-of r v (i .0) (head-below u (i .0) (i .1)) (i .2)))
+
+-- the pages read are those whose own regions meet the window
+module _ (k R P : ℕ) (v : Box) (o : ℕ → Option Box) where
+  met-at : (r : Box) (p j : ℕ) → o p ≡ some r → T (eqb j p) → met v (o j) ≡ meets r v
+  met-at r p j e t = ap (λ c. met v (o c)) (eqb→eq j p t) ∙ ap (met v) e
+
+  mutual
+    own-misses : (t : Tree) (n : ℕ) (r : Box) → Shaped k R P t n r → Owned o t r → T (not (meets r v)) → (j : ℕ) → 1 ≤ many j (pages t) → met v (o j) ≡ false
+    own-misses (leaf p d rs) n r s e m j i =
+        bool (eqb j p) (λ y. met-at r p j e y ∙ is-false (meets r v) m) (λ y. absurd (omega (arith, no-bit (eqb j p) (T-not (eqb j p) y))))
+    own-misses (node p d f) zero r s e m j i = absurd s
+    own-misses (node p d f) (suc n) r s e m j i =
+        bool (eqb j p) (λ y. met-at r p j (e .0) y ∙ is-false (meets r v) m)
+        (λ y. own-missesF f n r (s .1) (e .1) (below (s .0 .tiled)) m j (omega (arith, no-bit (eqb j p) (T-not (eqb j p) y))))
+
+    own-missesF : (f : Forest) (n : ℕ) (r : Box) → ShapedF k R P f n → OwnedF o f → Below (boxes f) r → T (not (meets r v)) → (j : ℕ) → 1 ≤ many j (pagesF f) → met v (o j) ≡ false
+    own-missesF fnil n r s e u m j i = absurd (omega arith)
+    own-missesF (fcons b t f) n r s e u m j i =
+        among j (pages t) (λ y. own-misses t n b (s .0) (e .0) (below-misses v u m) j y)
+        (λ z. own-missesF f n r (s .1) (e .1) (tail-below u) m j (omega (arith, many-append j (pages t) (pagesF f))))
+
+  mutual
+    own-reads : (t : Tree) (n : ℕ) (r : Box) → Shaped k R P t n r → Owned o t r → T (meets r v) → (j : ℕ) → many j (pages t) ≡ 1 → many j (reads t v) ≡ bit (met v (o j))
+    own-reads (leaf p d rs) n r s e m j i =
+        bool (eqb j p) (λ y. omega (arith, ap bit (met-at r p j e y), to-bit (meets r v) m, to-bit (eqb j p) y))
+        (λ y. absurd (omega (arith, no-bit (eqb j p) (T-not (eqb j p) y))))
+    own-reads (node p d f) zero r s e m j i = absurd s
+    own-reads (node p d f) (suc n) r s e m j i =
+        bool (eqb j p) (λ y. omega (arith, ap bit (met-at r p j (e .0) y), to-bit (meets r v) m, to-bit (eqb j p) y, reads-mostF f v j))
+        (λ y. let z = no-bit (eqb j p) (T-not (eqb j p) y) in omega (arith, own-readsF f n (s .1) (e .1) j (omega arith)))
+
+    own-readsF : (f : Forest) (n : ℕ) → ShapedF k R P f n → OwnedF o f → (j : ℕ) → many j (pagesF f) ≡ 1 → many j (readsF f v) ≡ bit (met v (o j))
+    own-readsF fnil n s e j i = absurd (omega arith)
+    own-readsF (fcons b t f) n s e j i =
+        let a = many-append j (pages t) (pagesF f) in
+        among j (pages t)
+        (λ y. cases (λ z. (T z → many j (reads t v) ≡ bit (met v (o j))) → (T (not z) → met v (o j) ≡ false) → many j (cond z (reads t v) [] ++ readsF f v) ≡ bit (met v (o j))) (meets b v)
+        (λ _ g h. omega (arith, g tt, many-append j (reads t v) (readsF f v), reads-mostF f v j)) (λ _ g h. omega (arith, ap bit (h tt), reads-mostF f v j))
+        (λ m. own-reads t n b (s .0) (e .0) m j (omega arith)) (λ m. own-misses t n b (s .0) (e .0) m j y))
+        (λ y. cases (λ z. many j (cond z (reads t v) [] ++ readsF f v) ≡ bit (met v (o j))) (meets b v)
+        (λ _. omega (arith, many-append j (reads t v) (readsF f v), reads-most t v j, own-readsF f n (s .1) (e .1) j (omega arith)))
+        (λ _. own-readsF f n (s .1) (e .1) j (omega arith)))
+
+-- the state's walk and search
+abbrev pub walkedS : State → Box → Tour
+walkedS none v = still
+walkedS (some t) v = walked t v
+
+abbrev pub seeksS : State → Key → Search
+seeksS none q = ends [] rootless
+seeksS (some t) q = seeks t q
+
+-- on a pool in which a well-formed state stands
+module _ (L : ℕ) (w : List ℕ) where
+  stands-paged : (s : State) → Stands L w s → Paged L w (pagesOf s)
+  stands-paged s h c i =
+      let q = h .formed .numbered .inside c i in
+      and-i (leb 1 c) (ltb c (pagesIn L w)) (le→leb 1 c (q .0)) (lt→ltb c (pagesIn L w) (q .1))
+
+  root-tour : (v : Box) (t : Tree) → Stands L w (some t) → tour L w v (levelsAt w - 1) (rootAt w) ≡ walked t v
+  root-tour v t h =
+      ap₂ (λ n j. tour L w v (n - 1) j) (h .levels) (h .root)
+      ∙ tour-tree L w v t (levels t - 1) (whole (domains w)) (h .formed .shape) (stands-seen L w t h) (stands-paged (some t) h)
+
+  reads-few : (v : Box) (t : Tree) → Stands L w (some t) → length (reads t v) ≤ pagesIn L w - 1
+  reads-few v t h =
+      once-length (pagesIn L w) (reads t v) (λ c i. h .formed .numbered .inside c (omega (arith, reads-most t v c)))
+      (λ c. omega (arith, reads-most t v c, h .formed .numbered .once c))
+
+  -- list's walk is the state's; the bound never stops it
+  pub list-tree : (v : Box) (s : State) → Stands L w s → listWalk L w v ≡ walkedS s v
+  list-tree v none h = rw (h .levels)
+  list-tree v (some t) h =
+      let N = pagesIn L w in
+      let l : length (reads t v) < N = omega (arith, reads-few v t h, h .formed .pages) in
+      ap (λ z. cond z still (bounded L w N (tour L w v (levelsAt w - 1) (rootAt w)))) (ne-eqb (levelsAt w) 0 (λ e. omega (arith, h .levels, some-levels t)))
+      ∙ ap (λ a. bounded L w N a) (root-tour v t h)
+      ∙ ap (λ z. cond z (walked t v) (record { read = take (N - 1) (reads t v); bad = true; found = [] })) (lt-ltb (length (reads t v)) N l)
+
+  pub find-tree : (q : Key) (s : State) → Stands L w s → findWalk L w q ≡ seeksS s q
+  find-tree q none h = rw (h .levels)
+  find-tree q (some t) h =
+      ap (λ z. cond z (ends [] rootless) (seek L w q (levelsAt w - 1) (rootAt w))) (ne-eqb (levelsAt w) 0 (λ e. omega (arith, h .levels, some-levels t)))
+      ∙ ap₂ (λ n j. seek L w q (n - 1) j) (h .levels) (h .root)
+      ∙ seek-tree L w q t (levels t - 1) (whole (domains w)) (h .formed .shape) (stands-seen L w t h) (stands-paged (some t) h)
+
+  -- list meets no bad page, and finds the records in the window
+  pub list-good : (v : Box) (s : State) → Stands L w s → listWalk L w v .bad ≡ false
+  list-good v none h = ap (λ t. t .bad) (list-tree v none h)
+  list-good v (some t) h = ap (λ t. t .bad) (list-tree v (some t) h)
+
+  pub list-finds : (v : Box) (s : State) → Stands L w s → map (λ x. x .rec) (listWalk L w v .found) ≡ only (λ r. inWindow v (r .key)) (recordsOf s)
+  list-finds v none h = ap (λ t. map (λ x. x .rec) (t .found)) (list-tree v none h)
+  list-finds v (some t) h =
+      let k = domains w in
+      ap (λ t. map (λ x. x .rec) (t .found)) (list-tree v (some t) h)
+      ∙ finds-all k (regionsPer L k) (pointsPer L k) t (levels t - 1) (whole k) v (h .formed .shape)
+
+  -- each page is read once
+  pub list-once : (v : Box) (s : State) → Stands L w s → (c : ℕ) → many c (listWalk L w v .read) ≤ 1
+  list-once v none h c = omega (arith, ap (λ t. many c (t .read)) (list-tree v none h))
+  list-once v (some t) h c = omega (arith, ap (λ t. many c (t .read)) (list-tree v (some t) h), reads-most t v c, h .formed .numbered .once c)
+
+  -- a window of one point reads a page of each level
+  pub list-point : (v : Box) (q : Key) (s : State) → Stands L w s → OnePoint v q → T (within (whole (domains w)) q) → length (listWalk L w v .read) ≡ levelsAt w
+  list-point v q none h o i = ap (λ t. length (t .read)) (list-tree v none h) ∙ sym (h .levels)
+  list-point v q (some t) h o i =
+      let k = domains w in
+      omega (
+        arith,
+        ap (λ t. length (t .read)) (list-tree v (some t) h),
+        h .levels,
+        some-levels t,
+        one-reads k (regionsPer L k) (pointsPer L k) v q o t (levels t - 1) (whole k) (h .formed .shape) i,
+      )
+
+  -- find of a point of the space reads a page of each level, and ends at the record with its keys, exactly if there is one
+  pub find-reads : (q : Key) (s : State) → Stands L w s → T (within (whole (domains w)) q) → length (findWalk L w q .read) ≡ levelsAt w
+  find-reads q none h i = ap (λ g. length (g .read)) (find-tree q none h) ∙ sym (h .levels)
+  find-reads q (some t) h i =
+      let k = domains w in
+      omega (
+        arith,
+        ap (λ g. length (g .read)) (find-tree q (some t) h),
+        h .levels,
+        some-levels t,
+        seeks-end k (regionsPer L k) (pointsPer L k) q t (levels t - 1) (whole k) (h .formed .shape) i .long,
+      )
+
+  pub find-rootless : (q : Key) → Stands L w none → findWalk L w q .end ≡ rootless
+  find-rootless q h = ap (λ g. g .end) (find-tree q none h)
+
+  pub find-answers : (q : Key) (t : Tree) → Stands L w (some t) → T (within (whole (domains w)) q) → Answers (records t) q (findWalk L w q .end)
+  find-answers q t h i =
+      let k = domains w in
+      subst (λ g. Answers (records t) q (g .end)) (sym (find-tree q (some t) h))
+      (seeks-end k (regionsPer L k) (pointsPer L k) q t (levels t - 1) (whole k) (h .formed .shape) i .answers)
