@@ -12,6 +12,7 @@ pub mod Print
 pub mod Walk
 pub mod Local
 pub mod History
+pub mod Answers
 pub mod Pool
 pub mod Format
 pub mod Reading
