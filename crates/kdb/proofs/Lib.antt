@@ -7,4 +7,5 @@ pub mod Views
 pub mod Stands
 pub mod Print
 pub mod Pool
+pub mod Own
 pub mod Cases
