@@ -16,5 +16,6 @@ pub mod Answers
 pub mod Pool
 pub mod Format
 pub mod Reading
+pub mod Own
 pub mod Cases
 pub mod Sessions
