@@ -134,3 +134,16 @@ pub length-pad : (n : ℕ) (ws : List ℕ) → length (pad n ws) ≡ n
 length-pad zero ws = refl
 length-pad (suc n) [] = ap suc (length-pad n [])
 length-pad (suc n) (w ∷ ws) = ap suc (length-pad n ws)
+
+-- flags
+pub and-t : (a b : Bool) → a && b ≡ true → (a ≡ true) × (b ≡ true)
+and-t true b t = (refl, t)
+and-t false b t = (t, absurd (let z : _≡_ {A = ℕ} 0 1 = cc in omega arith))
+
+pub and-assoc : (a b c : Bool) → a && b && c ≡ a && (b && c)
+and-assoc true b c = refl
+and-assoc false b c = refl
+
+pub and-true : (a : Bool) → a && true ≡ a
+and-true true = refl
+and-true false = refl
