@@ -2,10 +2,11 @@
 use mathlib.Core.Bool.{Bool, true, false, cond}
 use mathlib.Core.List.{List, [], _∷_}
 use mathlib.Core.Path.{_≡_}
-use Prim.Native.Nat.{ℕ, zero, suc, _+_, _-_, _*_, _≤_}
+use Prim.Native.Nat.{ℕ, zero, suc, _+_, _-_, _*_, _^_, _≤_, _<_}
 use lib.Dec.{eqb}
-use lib.ListN.{length, getD}
+use lib.ListN.{length, take, drop, getD}
 use Rattle.kdb.specs.Lists.{only, upFrom}
+use Rattle.kdb.specs.Box.{Box, Key, sides}
 use Rattle.kdb.specs.Pages.{regionsPer, pointsPer}
 use Rattle.kdb.specs.Pool.{pagesIn, goodLength}
 use Rattle.kdb.specs.Calls.{L}
@@ -59,3 +60,22 @@ freeFrom w m j = only (λ i. eqb (wordAt w i 0) 0) (upFrom m j)
 -- the lowest free page of n, or n
 abbrev pub lowestFree : List ℕ → ℕ → ℕ
 lowestFree w n = firstOr n (freeFrom w (n - 1) 1)
+
+-- the region at word a, and the keys of the record in slot e of page j
+abbrev pub regionAt : ℕ → List ℕ → ℕ → Box
+regionAt k w a = sides (take k (drop a w)) (take k (drop (a + k) w))
+
+abbrev pub keysOf : ℕ → List ℕ → ℕ → ℕ → Key
+keysOf k w j e = take k (drop (pointAt k j e) w)
+
+-- the region at word a, and the record in slot e of page j, end within the pool
+pub record RegionIn (w : List ℕ) (k a : ℕ) : Type 0 where
+  pub few : k ≤ 4
+  pub near : a < 2 ^ 40
+  pub ends : a + 2 * k ≤ length w
+
+pub record RecordIn (w : List ℕ) (k j e : ℕ) : Type 0 where
+  pub few : k ≤ 4
+  pub page : j < 2 ^ 32
+  pub slot : e < 2 ^ 32
+  pub ends : pointAt k j e + k ≤ length w
