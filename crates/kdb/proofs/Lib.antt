@@ -19,3 +19,4 @@ pub mod Reading
 pub mod Own
 pub mod Cases
 pub mod Sessions
+pub mod Words

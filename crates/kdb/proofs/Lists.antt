@@ -451,3 +451,15 @@ tally-gather h g (a ∷ l) i k m =
     bool (eqb i a)
     (λ t. let q : tally h (g i) ≡ tally h (g a) = ap (λ j. tally h (g j)) (eqb→eq i a t) in omega arith)
     (λ t. omega (arith, tally-gather h g l i (omega (arith, no-bit (eqb i a) (T-not (eqb i a) t))) m))
+-- flags
+pub and-t : (a b : Bool) → a && b ≡ true → (a ≡ true) × (b ≡ true)
+and-t true b t = (refl, t)
+and-t false b t = (t, absurd (let z : _≡_ {A = ℕ} 0 1 = cc in omega arith))
+
+pub and-assoc : (a b c : Bool) → a && b && c ≡ a && (b && c)
+and-assoc true b c = refl
+and-assoc false b c = refl
+
+pub and-true : (a : Bool) → a && true ≡ a
+and-true true = refl
+and-true false = refl

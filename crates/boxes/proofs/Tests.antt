@@ -1,0 +1,83 @@
+-- The loops over domains are the definitions' tests of regions, windows and keys.
+use mathlib.Core.Bool.{Bool, true, _&&_}
+use mathlib.Core.List.{List, []}
+use mathlib.Core.Path.{_≡_, refl, sym, ap, ap₂, _∙_}
+use Prim.Native.Nat.{ℕ, zero, suc, _+_, _*_, _≤_, max}
+use native.Mathlib.Omega.{arith}
+use native.Mathlib.Nat.{zero-add, add-zero}
+use lib.Dec.{leb, ltb, eqb}
+use lib.ListN.{length, take, drop, getD, length-drop}
+use lib.Seq.{take-all, length-take-le}
+use Rattle.kdb.specs.Lists.{same, every}
+use Rattle.kdb.specs.Box.{sides, within, inWindow, meets}
+use Rattle.kdb.specs.Calls.{windowOf, ordered}
+use Rattle.kdb.proofs.Lists.{and-true, and-assoc}
+use Rattle.kdb.proofs.Words.{keysBy, keys-by}
+use Rattle.words.specs.Loops.{allBy}
+use Rattle.words.specs.Words.{regionAt, keysOf, RegionIn, RecordIn, pointAt, pointKey}
+use Rattle.boxes.specs.Tests.{holdsAt, meetsAt, seenAt, sameAt, orderedAt}
+
+-- a loop over m domains from d on, by the functions that give the ends and the keys
+within-by : (m : ℕ) (l u x : ℕ → ℕ) (d : ℕ) (ok : Bool)
+    → allBy m (λ n i. leb (l i) (x i) && ltb (x i) (u i)) 1 d ok ≡ ok && within (sides (keysBy m l d) (keysBy m u d)) (keysBy m x d)
+unfolding allBy
+within-by zero l u x d ok = sym (and-true ok)
+within-by (suc m) l u x d ok = within-by m l u x (d + 1) (ok && (leb (l d) (x d) && ltb (x d) (u d))) ∙ and-assoc ok _ _
+
+window-by : (m : ℕ) (l u x : ℕ → ℕ) (d : ℕ) (ok : Bool)
+    → allBy m (λ n i. leb (l i) (x i) && leb (x i) (u i)) 1 d ok ≡ ok && inWindow (sides (keysBy m l d) (keysBy m u d)) (keysBy m x d)
+unfolding allBy
+window-by zero l u x d ok = sym (and-true ok)
+window-by (suc m) l u x d ok = window-by m l u x (d + 1) (ok && (leb (l d) (x d) && leb (x d) (u d))) ∙ and-assoc ok _ _
+
+meets-by : (m : ℕ) (l u a b : ℕ → ℕ) (d : ℕ) (ok : Bool)
+    → allBy m (λ n i. ltb (max (l i) (a i)) (u i) && leb (max (l i) (a i)) (b i)) 1 d ok
+    ≡ ok && meets (sides (keysBy m l d) (keysBy m u d)) (sides (keysBy m a d) (keysBy m b d))
+unfolding allBy
+meets-by zero l u a b d ok = sym (and-true ok)
+meets-by (suc m) l u a b d ok = meets-by m l u a b (d + 1) (ok && (ltb (max (l d) (a d)) (u d) && leb (max (l d) (a d)) (b d))) ∙ and-assoc ok _ _
+
+same-by : (m : ℕ) (x y : ℕ → ℕ) (d : ℕ) (ok : Bool) → allBy m (λ n i. eqb (x i) (y i)) 1 d ok ≡ ok && same (keysBy m x d) (keysBy m y d)
+unfolding allBy
+same-by zero x y d ok = sym (and-true ok)
+same-by (suc m) x y d ok = same-by m x y (d + 1) (ok && eqb (x d) (y d)) ∙ and-assoc ok _ _
+
+ordered-by : (m : ℕ) (l u : ℕ → ℕ) (d : ℕ) (ok : Bool)
+    → allBy m (λ n i. leb (l i) (u i)) 1 d ok ≡ ok && ordered (sides (keysBy m l d) (keysBy m u d))
+unfolding allBy
+ordered-by zero l u d ok = sym (and-true ok)
+ordered-by (suc m) l u d ok = ordered-by m l u (d + 1) (ok && leb (l d) (u d)) ∙ and-assoc ok _ _
+
+-- k words of a list from a on; the first k words; all of them
+from : (k a : ℕ) (w : List ℕ) → a + k ≤ length w → keysBy k (λ d. getD w (a + d) 0) 0 ≡ take k (drop a w)
+from k a w h = keys-by k a 0 w (λ d. getD w (a + d) 0) (λ d. refl) (omega arith) ∙ ap (λ (i : ℕ). take k (drop i w)) (add-zero a)
+
+first : (k : ℕ) (w : List ℕ) → k ≤ length w → keysBy k (λ d. getD w d 0) 0 ≡ take k w
+first k w h = keys-by k 0 0 w (λ d. getD w d 0) (λ d. ap (λ (i : ℕ). getD w i 0) (sym (zero-add d))) (omega arith)
+
+own : (k : ℕ) (w : List ℕ) → length w ≡ k → keysBy k (λ d. getD w d 0) 0 ≡ w
+own k w e = first k w (omega arith) ∙ take-all k w (omega arith)
+
+module _ (w : List ℕ) (k a : ℕ) (g : RegionIn w k a) where
+  region : sides (keysBy k (λ d. getD w (a + d) 0) 0) (keysBy k (λ d. getD w (a + k + d) 0) 0) ≡ regionAt k w a
+  region = ap₂ sides (from k a w (omega (arith, g .ends))) (from k (a + k) w (omega (arith, g .ends)))
+
+  pub point-in : (p : List ℕ) → length p ≡ k → allBy k (holdsAt w k a p) 1 0 true ≡ within (regionAt k w a) p
+  point-in p e = within-by k _ _ _ 0 true ∙ ap₂ within region (own k p e)
+
+module _ (k : ℕ) (v : List ℕ) (e : length v ≡ 2 * k) where
+  window : sides (keysBy k (λ d. getD v d 0) 0) (keysBy k (λ d. getD v (k + d) 0) 0) ≡ windowOf k v
+  window = ap₂ sides (first k v (omega arith)) (from k k v (omega arith) ∙ take-all k (drop k v) (omega (arith, length-drop k v)))
+
+  pub meets-window : (w : List ℕ) (a : ℕ) → RegionIn w k a → allBy k (meetsAt w k a v) 1 0 true ≡ meets (regionAt k w a) (windowOf k v)
+  meets-window w a g = meets-by k _ _ _ _ 0 true ∙ ap₂ meets (region w k a g) window
+
+  pub in-window : (w : List ℕ) (j s : ℕ) → RecordIn w k j s → allBy k (seenAt w k j s v) 1 0 true ≡ inWindow (windowOf k v) (keysOf k w j s)
+  in-window w j s g = window-by k _ _ _ 0 true ∙ ap₂ inWindow window (from k (pointAt k j s) w (g .ends))
+
+  pub ordered-window : allBy k (orderedAt v k) 1 0 true ≡ ordered (windowOf k v)
+  ordered-window = ordered-by k _ _ 0 true ∙ ap ordered window
+
+pub same-keys : (w : List ℕ) (k j s : ℕ) → RecordIn w k j s → (p : List ℕ) → length p ≡ k
+    → allBy k (sameAt w k j s p) 1 0 true ≡ same p (keysOf k w j s)
+same-keys w k j s g p e = same-by k _ _ 0 true ∙ ap₂ same (own k p e) (from k (pointAt k j s) w (g .ends))

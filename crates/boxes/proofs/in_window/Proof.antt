@@ -1,0 +1,67 @@
+use Rattle.boxes.proofs.Tests as tests
+use Rattle.boxes.specs.Tests.{seenAt}
+use Rattle.words.specs.Words.{keysOf}
+use Rattle.kdb.specs.Calls.{windowOf}
+use Rattle.kdb.specs.Box.{inWindow}
+use Rattle.words.proofs.Loops.{all-end, all-next}
+use Rattle.words.specs.Loops.{allBy}
+use native.Mathlib.Nat.{sub-zero}
+use mathlib.Core.Path.{_≡_}
+use Prim.Native.Nat.{_≤_, _-_}
+use borrow.Author.Needs.{needs}
+use native.Mathlib.Omega.{arith}
+use Rattle.boxes.proofs.in_window.Statement.{statement}
+use Rattle.boxes.proofs.in_window.Tie as tie
+use Rattle.boxes.proofs.in_window.Reads as reads
+use Rattle.boxes.proofs.in_window.Lts as lts
+use Rattle.words.proofs.get.Reads as get-reads
+use Rattle.words.proofs.point_key.Reads as point-key-reads
+
+abbrev Inv-loop : tie.InvT-loop
+Inv-loop pool k j slot window ok₀ d₀ ok d = (d ≤ k) × (allBy (k - d) (seenAt pool k j slot window) 1 d ok ≡ inWindow (windowOf k window) (keysOf k pool j slot))
+
+abbrev μ-loop : tie.MeasureT-loop
+μ-loop pool k j slot window ok₀ d₀ ok d = k - d
+
+loop-holds : tie.Need-loop-holds Inv-loop μ-loop
+loop-holds c = let a = c .before .before .args in (omega arith, rw (sub-zero (a .k)) (tests.in-window (a .k) (a .window .now) (c .before .before .pre .1) (a .pool .now) (a .j) (a .slot) (c .before .before .pre .0)))
+
+point-key-requires : tie.Need-point-key-requires Inv-loop μ-loop
+point-key-requires c κs = search needs
+
+get-requires : tie.Need-get-requires Inv-loop μ-loop
+get-requires c κs = search needs
+
+add-get : tie.Need-add-get Inv-loop μ-loop
+add-get c = search needs
+
+get-requires-2 : tie.Need-get-requires-2 Inv-loop μ-loop
+get-requires-2 c κs = search needs
+
+add-d : tie.Need-add-d Inv-loop μ-loop
+add-d c = search needs
+
+loop-less : tie.Need-loop-less Inv-loop μ-loop
+loop-less c = search needs
+
+loop-again : tie.Need-loop-again Inv-loop μ-loop
+loop-again c = (omega arith, rw (c .before .before .point-key .ensures .0, c .before .get .ensures .0, c .get2 .ensures .0) (all-next _ _ _ _ _ _ _ (c .before .before .before .before .loop .inv .1) (omega arith)))
+
+returns : tie.Need-returns Inv-loop μ-loop
+returns c = all-end _ _ _ _ _ _ _ (c .before .loop .inv .1) (omega arith)
+
+pub in-window-spec : {M : Type 1} → statement M
+in-window-spec =
+    tie.close
+    (tie.spec
+    Inv-loop
+    μ-loop
+    loop-holds
+    point-key-requires
+    get-requires
+    add-get
+    get-requires-2
+    add-d
+    loop-less
+    loop-again
+    returns)

@@ -1,0 +1,60 @@
+use Rattle.boxes.proofs.Tests as tests
+use Rattle.boxes.specs.Tests.{orderedAt}
+use Rattle.kdb.specs.Calls.{windowOf, ordered}
+use Rattle.words.proofs.Loops.{all-end, all-next}
+use Rattle.words.specs.Loops.{allBy}
+use native.Mathlib.Nat.{sub-zero}
+use mathlib.Core.Path.{_≡_}
+use Prim.Native.Nat.{_≤_, _-_}
+use borrow.Author.Needs.{needs}
+use native.Mathlib.Omega.{arith}
+use Rattle.boxes.proofs.ordered_window.Statement.{statement}
+use Rattle.boxes.proofs.ordered_window.Tie as tie
+use Rattle.boxes.proofs.ordered_window.Reads as reads
+use Rattle.boxes.proofs.ordered_window.Lts as lts
+use Rattle.words.proofs.get.Reads as get-reads
+
+abbrev Inv-loop : tie.InvT-loop
+Inv-loop window k ok₀ d₀ ok d = (d ≤ k) × (allBy (k - d) (orderedAt window k) 1 d ok ≡ ordered (windowOf k window))
+
+abbrev μ-loop : tie.MeasureT-loop
+μ-loop window k ok₀ d₀ ok d = k - d
+
+loop-holds : tie.Need-loop-holds Inv-loop μ-loop
+loop-holds c = let a = c .before .args in (omega arith, rw (sub-zero (a .k)) (tests.ordered-window (a .k) (a .window .now) (c .before .pre .1)))
+
+get-requires : tie.Need-get-requires Inv-loop μ-loop
+get-requires c κs = search needs
+
+add-get : tie.Need-add-get Inv-loop μ-loop
+add-get c = search needs
+
+get-requires-2 : tie.Need-get-requires-2 Inv-loop μ-loop
+get-requires-2 c κs = search needs
+
+add-d : tie.Need-add-d Inv-loop μ-loop
+add-d c = search needs
+
+loop-less : tie.Need-loop-less Inv-loop μ-loop
+loop-less c = search needs
+
+loop-again : tie.Need-loop-again Inv-loop μ-loop
+loop-again c = (omega arith, rw (c .before .get .ensures .0, c .get2 .ensures .0) (all-next _ _ _ _ _ _ _ (c .before .before .before .loop .inv .1) (omega arith)))
+
+returns : tie.Need-returns Inv-loop μ-loop
+returns c = all-end _ _ _ _ _ _ _ (c .before .loop .inv .1) (omega arith)
+
+pub ordered-window-spec : {M : Type 1} → statement M
+ordered-window-spec =
+    tie.close
+    (tie.spec
+    Inv-loop
+    μ-loop
+    loop-holds
+    get-requires
+    add-get
+    get-requires-2
+    add-d
+    loop-less
+    loop-again
+    returns)

@@ -1,0 +1,91 @@
+// Tests of regions, windows and keys on the words of a pool, each a loop over the domains.
+use words::get;
+use words::lower_end;
+use words::point_key;
+use words::upper_end;
+ghost use mathlib.Core.Path.{_≡_};
+ghost use Prim.Native.Nat.{ℕ, _+_, _*_, _≤_, _<_, _^_, max};
+ghost use lib.ListN.{length};
+ghost use Rattle.kdb.specs.Lists.{same};
+ghost use Rattle.kdb.specs.Box.{within, inWindow, meets};
+ghost use Rattle.kdb.specs.Calls.{windowOf, ordered};
+ghost use Rattle.words.specs.Words.{regionAt, keysOf, RegionIn, RecordIn};
+
+fn larger(a: usize, b: usize) -> usize
+    ensures { λ r. ⌜ r ≡ max a b ⌝ }
+{
+    if a < b { b } else { a }
+}
+
+// The region at word `at` holds the point: lower ≤ key < upper in each domain.
+pub fn point_in(pool: &[u32], k: usize, at: usize, point: &[u32]) -> bool
+    requires { ⌜ RegionIn (now pool) k at × (length (now point) ≡ k) ⌝ }
+    ensures { λ r. ⌜ r ≡ within (regionAt k (now (pool .entry)) at) (now (point .entry)) ⌝ }
+{
+    let mut ok = true;
+    let mut d: usize = 0;
+    while d < k {
+        let key = get(point, d);
+        ok = ok & ((lower_end(pool, at, d) <= key) & (key < upper_end(pool, k, at, d)));
+        d += 1;
+    }
+    ok
+}
+
+// The region at word `at` meets the window: in each domain the larger lower end lies in both.
+pub fn meets_window(pool: &[u32], k: usize, at: usize, window: &[u32]) -> bool
+    requires { ⌜ RegionIn (now pool) k at × (length (now window) ≡ 2 * k) ⌝ }
+    ensures { λ r. ⌜ r ≡ meets (regionAt k (now (pool .entry)) at) (windowOf k (now (window .entry))) ⌝ }
+{
+    let mut ok = true;
+    let mut d: usize = 0;
+    while d < k {
+        let low = larger(lower_end(pool, at, d), get(window, d));
+        ok = ok & ((low < upper_end(pool, k, at, d)) & (low <= get(window, k + d)));
+        d += 1;
+    }
+    ok
+}
+
+// The window holds the record in a slot of page j: lower ≤ key ≤ upper in each domain.
+pub fn in_window(pool: &[u32], k: usize, j: usize, slot: usize, window: &[u32]) -> bool
+    requires { ⌜ RecordIn (now pool) k j slot × (length (now window) ≡ 2 * k) ⌝ }
+    ensures { λ r. ⌜ r ≡ inWindow (windowOf k (now (window .entry))) (keysOf k (now (pool .entry)) j slot) ⌝ }
+{
+    let mut ok = true;
+    let mut d: usize = 0;
+    while d < k {
+        let key = point_key(pool, k, j, slot, d);
+        ok = ok & ((get(window, d) <= key) & (key <= get(window, k + d)));
+        d += 1;
+    }
+    ok
+}
+
+// The record in a slot of page j has the point's keys.
+pub fn same_keys(pool: &[u32], k: usize, j: usize, slot: usize, point: &[u32]) -> bool
+    requires { ⌜ RecordIn (now pool) k j slot × (length (now point) ≡ k) ⌝ }
+    ensures { λ r. ⌜ r ≡ same (now (point .entry)) (keysOf k (now (pool .entry)) j slot) ⌝ }
+{
+    let mut ok = true;
+    let mut d: usize = 0;
+    while d < k {
+        ok = ok & (get(point, d) == point_key(pool, k, j, slot, d));
+        d += 1;
+    }
+    ok
+}
+
+// No lower end of the window is above its upper end.
+pub fn ordered_window(window: &[u32], k: usize) -> bool
+    requires { ⌜ (k ≤ 4) × (length (now window) ≡ 2 * k) ⌝ }
+    ensures { λ r. ⌜ r ≡ ordered (windowOf k (now (window .entry))) ⌝ }
+{
+    let mut ok = true;
+    let mut d: usize = 0;
+    while d < k {
+        ok = ok & (get(window, d) <= get(window, k + d));
+        d += 1;
+    }
+    ok
+}
