@@ -37,11 +37,6 @@ pub ents-boxes : (f : Forest) → length (ents f) ≡ length (boxes f)
 ents-boxes fnil = refl
 ents-boxes (fcons b t f) = ap suc (ents-boxes f)
 
-or-blank : (a : Page) → orPage a blank ≡ a
-or-blank blank = refl
-or-blank (points d rs) = refl
-or-blank (regions d es) = refl
-
 pub or-first : (a b : Page) → T (inUse a) → orPage a b ≡ a
 or-first blank b h = absurd h
 or-first (points d rs) b h = refl
