@@ -13,6 +13,7 @@ pub mod Walk
 pub mod Local
 pub mod History
 pub mod Answers
+pub mod Demands
 pub mod Pool
 pub mod Format
 pub mod Reading
