@@ -4,5 +4,6 @@ pub mod Tiling
 pub mod Cut
 pub mod Split
 pub mod Fair
+pub mod Grow
 pub mod Stands
 pub mod Cases

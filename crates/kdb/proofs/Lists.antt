@@ -255,3 +255,8 @@ pub getD-in : (g : ℕ → Bool) (l : List ℕ) (i : ℕ) → i < length l → T
 getD-in g [] i h t = absurd (omega arith)
 getD-in g (a ∷ l) zero h t = omega (arith, to-bit (g a) t)
 getD-in g (a ∷ l) (suc i) h t = omega (arith, getD-in g l i (omega arith) t)
+
+-- by cases on a test that chooses between two
+pub by-case {ℓ κ} : {A : Type κ} (P : A → Type ℓ) (s : Bool) (y z : A) → (T s → P y) → (T (not s) → P z) → P (elim s as (λ _. A) [ true ↦ y | false ↦ z ])
+by-case P true y z f g = f tt
+by-case P false y z f g = g tt
