@@ -355,3 +355,108 @@ module _ (k R P : ℕ) where
               (page-half true, shapedF-half k R P d x g n true (drop 1 (drop u free)) (w .shaped))
               (page-half false, shapedF-half k R P d x g n false (drop 1 (drop u free)) (w .shaped))
               (w .held) (λ t l. omega (arith, w .paged t l)))
+
+-- an entry with what its child has become, and an entry passed by
+entered-made : (b : Box) (o : Out) (f : Forest) (free : List ℕ) → enter b (shown o free) f ≡ shownF (entered b o f) free
+entered-made b (one t u) f free = go (leb u (length free))
+  where
+    go : (c : Bool) → enter b (showBy c (one t u) free) f ≡ showByF c (entered b (one t u) f) free
+    go true = refl
+    go false = refl
+entered-made b (two d x l r u) f free = go (leb u (length free))
+  where
+    go : (c : Bool) → enter b (showBy c (two d x l r u) free) f ≡ showByF c (entered b (two d x l r u) f) free
+    go true = refl
+    go false = refl
+
+passed-made : (b : Box) (t : Tree) (o : OutF) (free : List ℕ) → behind b t (shownF o free) ≡ shownF (passed b t o) free
+passed-made b t (asMany f u) free = go (leb u (length free))
+  where
+    go : (c : Bool) → behind b t (showByF c (asMany f u) free) ≡ showByF c (passed b t (asMany f u)) free
+    go true = refl
+    go false = refl
+passed-made b t (oneMore f u) free = go (leb u (length free))
+  where
+    go : (c : Bool) → behind b t (showByF c (oneMore f u) free) ≡ showByF c (passed b t (oneMore f u)) free
+    go true = refl
+    go false = refl
+
+module _ (k R P : ℕ) where
+  entered-fit : (b : Box) (t : Tree) (f : Forest) (q : Rec) (free : List ℕ) (n : ℕ) (o : Out) → Fit k R P t q free n b o → ShapedF k R P f n → FitF k R P (fcons b t f) q free n (entered b o f)
+  entered-fit b t f q free n (one t′ u) w h =
+      record {
+        shaped = (w .shaped, h);
+        hold = λ p. refl;
+        firm = λ s. s;
+        wide = omega arith;
+        held = λ g. simp tally-append (omega (arith, w .held g));
+        paged = λ g l. simp tally-append (omega (arith, w .paged g l));
+      }
+  entered-fit b t f q free n (two d x l r u) w h =
+      let c = fcons (rightPart d x b) r fnil in
+      let i = w .shaped .0 in
+      record {
+        shaped = (w .shaped .1, join-shaped k R P f c n h (w .shaped .2, tt));
+        hold = λ p. rw (join-boxes f c) (omega (arith, tally-append (λ a. within a p) (boxes f) (rightPart d x b ∷ []), two-hold d x b i p));
+        firm = λ s. rw (join-boxes f c) (and-i (solid (leftPart d x b)) _ (part-solid true d x b i (and-l (solid b) _ s))
+            (every-append solid (boxes f) (rightPart d x b ∷ []) (and-r (solid b) _ s) (and-i (solid (rightPart d x b)) _ (part-solid false d x b i (and-l (solid b) _ s)) tt)));
+        wide = rw (join-boxes f c) (omega (arith, length-append (boxes f) (rightPart d x b ∷ [])));
+        held = λ g. simp tally-append (omega (arith, w .held g, join-tally g f c, tally-append g (records r) []));
+        paged = λ g l. simp tally-append (omega (arith, w .paged g l, join-pages g f c, tally-append g (pages r) []));
+      }
+
+  passed-fit : (b : Box) (t : Tree) (f : Forest) (q : Rec) (free : List ℕ) (n : ℕ) (o : OutF) → Shaped k R P t n b → FitF k R P f q free n o → FitF k R P (fcons b t f) q free n (passed b t o)
+  passed-fit b t f q free n (asMany g u) h w =
+      record {
+        shaped = (h, w .shaped);
+        hold = λ p. omega (arith, w .hold p);
+        firm = λ s. and-i (solid b) _ (and-l (solid b) _ s) (w .firm (and-r (solid b) _ s));
+        wide = omega (arith, w .wide);
+        held = λ a. simp tally-append (omega (arith, w .held a));
+        paged = λ a l. simp tally-append (omega (arith, w .paged a l));
+      }
+  passed-fit b t f q free n (oneMore g u) h w =
+      record {
+        shaped = (h, w .shaped);
+        hold = λ p. omega (arith, w .hold p);
+        firm = λ s. and-i (solid b) _ (and-l (solid b) _ s) (w .firm (and-r (solid b) _ s));
+        wide = omega (arith, w .wide);
+        held = λ a. simp tally-append (omega (arith, w .held a));
+        paged = λ a l. simp tally-append (omega (arith, w .paged a l));
+      }
+
+  entry-ok : (b : Box) (t : Tree) (f : Forest) (q : Rec) (free : List ℕ) (n : ℕ) → Shaped k R P t n b → ShapedF k R P f n
+      → (T (within b (q .key)) → Grown k R P t q free n b) → (T (not (within b (q .key))) → GrownF k R P f q free n) → GrownF k R P (fcons b t f) q free n
+  entry-ok b t f q free n h hs v w =
+      record {
+        fair = (λ y. v y .fair, λ y. w y .fair);
+        made = made (within b (q .key)) (λ y. v y .made) (λ y. w y .made);
+        fit = by-case (λ o. FitF k R P (fcons b t f) q free n o) (within b (q .key)) (entered b (grown k R P t q free) f) (passed b t (grownF k R P f q free))
+            (λ y. entered-fit b t f q free n (grown k R P t q free) (v y .fit) hs) (λ y. passed-fit b t f q free n (grownF k R P f q free) h (w y .fit));
+      }
+    where
+      made : (s : Bool) → (T s → grow k R P t q free ≡ shown (grown k R P t q free) free) → (T (not s) → growF k R P f q free ≡ shownF (grownF k R P f q free) free)
+          → elim s as (λ _. UpF) [ true ↦ enter b (grow k R P t q free) f | false ↦ behind b t (growF k R P f q free) ]
+          ≡ shownF (elim s as (λ _. OutF) [ true ↦ entered b (grown k R P t q free) f | false ↦ passed b t (grownF k R P f q free) ]) free
+      made true v w = ap (λ u. enter b u f) (v tt) ∙ entered-made b (grown k R P t q free) f free
+      made false v w = ap (behind b t) (w tt) ∙ passed-made b t (grownF k R P f q free) free
+
+  module _ (someP : 1 ≤ P) (someR : 1 ≤ R) where
+    mutual
+      pub grow-ok : (t : Tree) (n : ℕ) (q : Rec) (free : List ℕ) (b : Box) → Shaped k R P t n b → length b ≡ k → T (within b (q .key))
+          → tally (λ r. same (q .key) (r .key)) (records t) ≡ 0 → Grown k R P t q free n b
+      grow-ok (leaf p e rs) n q free b h lb i new = leaf-ok k R P p e rs q free n b someP h lb i new
+      grow-ok (node p e f) zero q free b h lb i new = absurd h
+      grow-ok (node p e f) (suc n) q free b h lb i new =
+          let c = tiles-counted b (boxes f) (h .0 .tiled) in
+          node-ok k R P p e f q free n b someR (h .0) lb
+          (growF-ok f n q free (h .1) (λ a m. entry-length b (boxes f) c a m ∙ lb) (omega (arith, c .once (q .key), to-bit (within b (q .key)) i)) new)
+
+      pub growF-ok : (f : Forest) (n : ℕ) (q : Rec) (free : List ℕ) → ShapedF k R P f n → ((c : Box) → In c (boxes f) → length c ≡ k) → 1 ≤ holders (boxes f) (q .key)
+          → tally (λ r. same (q .key) (r .key)) (recordsF f) ≡ 0 → GrownF k R P f q free n
+      growF-ok fnil n q free h l i new = absurd (omega arith)
+      growF-ok (fcons b t f) n q free h l i new =
+          let split = tally-append (λ r. same (q .key) (r .key)) (records t) (recordsF f) in
+          entry-ok b t f q free n (h .0) (h .1)
+          (λ y. grow-ok t n q free b (h .0) (l b (in-head b (boxes f))) y (omega arith))
+          (λ y. growF-ok f n q free (h .1) (λ c m. l c (in-tail c b (boxes f) m)) (omega (arith, no-bit (within b (q .key)) (T-not (within b (q .key)) y))) (omega arith))
