@@ -2,26 +2,28 @@
 -- the free pages suffice, that every page stays well formed, that the record and nothing else is added, and that the way is fair.
 use mathlib.Core.Bool.{Bool, true, false, _&&_, not, cond}
 use mathlib.Core.List.{List, [], _∷_, _++_}
+use mathlib.Core.Logic.{_↔_}
 use mathlib.Core.Option.{Option, none, some}
 use mathlib.Core.Path.{_≡_, refl, sym, ap, ap₂, _∙_, subst}
 use Prim.Native.Nat.{ℕ, zero, suc, _+_, _-_, _<_, _≤_, _%_}
 use native.Mathlib.Omega.{arith}
 use native.Mathlib.Nat.{mod-lt, zero-add}
-use lib.Dec.{T, leb, ltb, eqb, leb→le, le→leb, ltb→lt, lt→ltb, nltb→le, nleb→lt, T-not, not-T, eqb→eq, eqb-refl}
-use lib.ListN.{length, take, drop, getD, length-append, length-drop, take-append-drop}
-use lib.Seq.{take-add, drop-drop}
-use Rattle.kdb.specs.Lists.{bit, only, tally, every, many, same}
+use lib.Dec.{T, leb, ltb, eqb, leb→le, le→leb, ltb→lt, lt→ltb, nltb→le, nleb→lt, T-not, not-T, eqb→eq, eqb-refl, lit≤}
+use lib.ListN.{length, take, drop, getD, length-append, length-drop, drop-of-length-le}
+use lib.Seq.{take-add, take-suc, drop-drop, drop-cons}
+use Rattle.kdb.specs.Lists.{bit, only, tally, every, many, same, upFrom}
 use Rattle.kdb.specs.Box.{Box, Key, whole, within, solid, leftPart, rightPart}
-use Rattle.kdb.specs.Tree.{Rec, Tree, leaf, node, Forest, fnil, fcons, boxes, pages, pagesF, records, recordsF}
+use Rattle.kdb.specs.Tree.{Rec, Tree, leaf, node, Forest, fnil, fcons, State, boxes, levels, pages, pagesF, records, recordsF, pagesOf, recordsOf}
 use Rattle.kdb.specs.Cut.{Cut, nowhere, cut, cutPoints, cutRegions}
 use Rattle.kdb.specs.Tiling.{Tiles, Counted, holders}
-use Rattle.kdb.specs.Shape.{differ, PointPage, RegionPage, Shaped, ShapedF}
-use Rattle.kdb.specs.Steps.{afterChosen, Two, split, Up, failed, fits, parts, UpF, failedF, kept, wider, size, joinF, parted, enter, behind, chosen, settleLeaf, settleNode, grow, growF}
-use Rattle.kdb.proofs.Lists.{and-l, and-r, and-i, bool, by-case, is-true, is-false, to-bit, no-bit, tally-append, every-append, same-eq, same-refl, In, in-head, in-tail, every-in}
+use Rattle.kdb.specs.Pages.{regionsPer, pointsPer}
+use Rattle.kdb.specs.Shape.{differ, PointPage, RegionPage, Shaped, ShapedF, ShapedS, Numbered, WellFormed}
+use Rattle.kdb.specs.Steps.{freeOf, afterChosen, Two, split, Up, failed, fits, parts, UpF, failedF, kept, wider, size, joinF, parted, enter, behind, chosen, settleLeaf, settleNode, grow, growF, newRoot, topped, first, placed, without, remove, removeF, removed}
+use Rattle.kdb.proofs.Lists.{and-l, and-r, and-i, bool, by-case, is-true, is-false, to-bit, no-bit, tally-append, every-append, same-eq, same-refl, In, in-head, in-tail, every-in, tally-only, tally-take, many-only, upFrom-in, upFrom-once}
 use Rattle.kdb.proofs.Tiling
-use Rattle.kdb.proofs.Tiling.{tiles-counted, counted-tiles, Inside, on, part, part-solid, two-hold}
+use Rattle.kdb.proofs.Tiling.{tiles-counted, counted-tiles, Inside, on, part, part-solid, two-hold, two-tile}
 use Rattle.kdb.proofs.Cut.{within-length, PointsCut, points-cut, points-rooms, points-inside, RegionsCut, regions-cut, regions-rooms, entry-length}
-use Rattle.kdb.proofs.Split.{need, half, halfF, halves, split-some, split-none, half-records, half-pages, half-boxes, point-half, region-half, shapedF-half}
+use Rattle.kdb.proofs.Split.{need, half, halfF, halves, split-some, split-none, half-records, half-pages, half-boxes, point-half, region-half, shapedF-half, shaped-levels}
 use Rattle.kdb.proofs.Fair.{FairPoints, FairRegions, FairWider, Fair, FairF}
 
 -- what a page becomes, with the pages claimed: one page; two pages, cut along a key of a domain
@@ -460,3 +462,194 @@ module _ (k R P : ℕ) where
           entry-ok b t f q free n (h .0) (h .1)
           (λ y. grow-ok t n q free b (h .0) (l b (in-head b (boxes f))) y (omega arith))
           (λ y. growF-ok f n q free (h .1) (λ c m. l c (in-tail c b (boxes f) m)) (omega (arith, no-bit (within b (q .key)) (T-not (within b (q .key)) y))) (omega arith))
+
+-- the pages that are free
+pub free-once : (N : ℕ) (ps : List ℕ) (c : ℕ) → many c (freeOf N ps) ≤ 1
+free-once N ps c = omega (arith, tally-only (λ a. eqb (many a ps) 0) (eqb c) (upFrom (N - 1) 1), upFrom-once (N - 1) 1 c)
+
+pub free-in : (N : ℕ) (ps : List ℕ) (c : ℕ) → 1 ≤ many c (freeOf N ps) → (1 ≤ c) × (c < N) × (many c ps ≡ 0)
+free-in N ps c h =
+    let i = upFrom-in (N - 1) 1 c (omega (arith, tally-only (λ a. eqb (many a ps) 0) (eqb c) (upFrom (N - 1) 1))) in
+    (i .0, omega arith, eqb→eq (many c ps) 0 (many-only (λ a. eqb (many a ps) 0) c (upFrom (N - 1) 1) h))
+
+-- pages with the first of the free ones are still different pages of 1 to N − 1
+pub numbered-more : (N : ℕ) (ps qs : List ℕ) (n : ℕ) → Numbered N ps → ((c : ℕ) → many c qs ≡ many c ps + many c (take n (freeOf N ps))) → Numbered N qs
+numbered-more N ps qs n h e =
+    record {
+      inside = λ c i. bool (leb 1 (many c ps)) (λ t. h .inside c (leb→le 1 (many c ps) t))
+          (λ t. let f = free-in N ps c (omega (arith, nleb→lt 1 (many c ps) t, e c, tally-take (eqb c) n (freeOf N ps))) in (f .0, f .1));
+      once = λ c. bool (leb 1 (many c (freeOf N ps)))
+          (λ t. omega (arith, free-in N ps c (leb→le 1 (many c (freeOf N ps)) t) .2, e c, tally-take (eqb c) n (freeOf N ps), free-once N ps c))
+          (λ t. omega (arith, nleb→lt 1 (many c (freeOf N ps)) t, e c, tally-take (eqb c) n (freeOf N ps), h .once c));
+    }
+
+-- the tree under its root, a new one if the root was parted, and the pages that all this claims
+abbrev pub claimed : Out → ℕ
+claimed (one t u) = u
+claimed (two d x l r u) = suc u
+
+abbrev pub atTop : ℕ → Out → List ℕ → Tree
+atTop k (one t u) free = t
+atTop k (two d x l r u) free = node (getD free u 0) 0 (fcons (leftPart d x (whole k)) l (fcons (rightPart d x (whole k)) r fnil))
+
+-- how many pages the placing of q claims, and the tree after it
+abbrev pub claims : ℕ → ℕ → ℕ → ℕ → State → Rec → ℕ
+claims k R P N none q = 1
+claims k R P N (some t) q = claimed (grown k R P t q (freeOf N (pages t)))
+
+abbrev pub after : ℕ → ℕ → ℕ → ℕ → State → Rec → Tree
+after k R P N none q = leaf (getD (freeOf N []) 0 0) 0 (q ∷ [])
+after k R P N (some t) q = atTop k (grown k R P t q (freeOf N (pages t))) (freeOf N (pages t))
+
+topped-enough : (k : ℕ) (o : Out) (free : List ℕ) → claimed o ≤ length free → topped k (shown o free) ≡ some (some (atTop k o free))
+topped-enough k (one t u) free h = ap (topped k) (shown-enough (one t u) free h)
+topped-enough k (two d x l r u) free h =
+    ap (topped k) (shown-enough (two d x l r u) free (omega arith)) ∙ ap (newRoot k d x (record { lt = l; rt = r; free = drop u free })) (drop-cons free u 0 h)
+
+topped-short : (k : ℕ) (o : Out) (free : List ℕ) → length free < claimed o → topped k (shown o free) ≡ none
+topped-short k (one t u) free h = ap (topped k) (shown-short (one t u) free h)
+topped-short k (two d x l r u) free h =
+    bool (leb u (length free))
+    (λ c. ap (topped k) (shown-enough (two d x l r u) free (leb→le u (length free) c))
+    ∙ ap (newRoot k d x (record { lt = l; rt = r; free = drop u free })) (drop-of-length-le free {i = u} (omega arith)))
+    (λ c. ap (topped k) (shown-short (two d x l r u) free (nleb→lt u (length free) c)))
+
+first-enough : (q : Rec) (free : List ℕ) → 1 ≤ length free → first q free ≡ some (some (leaf (getD free 0 0) 0 (q ∷ [])))
+first-enough q [] h = absurd (omega arith)
+first-enough q (r ∷ free) h = refl
+
+first-short : (q : Rec) (free : List ℕ) → length free < 1 → first q free ≡ none
+first-short q [] h = refl
+first-short q (r ∷ free) h = absurd (omega arith)
+
+whole-solid : (k : ℕ) → T (solid (whole k))
+whole-solid zero = tt
+whole-solid (suc k) = whole-solid k
+
+pub whole-length : (k : ℕ) → length (whole k) ≡ k
+whole-length zero = refl
+whole-length (suc k) = ap suc (whole-length k)
+
+-- room for the steps: a point page takes a point, a region page two regions
+pub record Roomy (L k : ℕ) : Type 0 where
+  pub domains : 1 ≤ k
+  pub points : 1 ≤ pointsPer L k
+  pub regions : 2 ≤ regionsPer L k
+
+pub roomy-32 : (k : ℕ) → 1 ≤ k → k ≤ 4 → Roomy 32 k
+roomy-32 zero h i = absurd (omega arith)
+roomy-32 (suc zero) h i = record { domains = lit≤ tt; points = lit≤ tt; regions = lit≤ tt }
+roomy-32 (suc (suc zero)) h i = record { domains = lit≤ tt; points = lit≤ tt; regions = lit≤ tt }
+roomy-32 (suc (suc (suc zero))) h i = record { domains = lit≤ tt; points = lit≤ tt; regions = lit≤ tt }
+roomy-32 (suc (suc (suc (suc zero)))) h i = record { domains = lit≤ tt; points = lit≤ tt; regions = lit≤ tt }
+roomy-32 (suc (suc (suc (suc (suc k))))) h i = absurd (omega arith)
+
+-- a tree at its own level
+at-levels : (k R P : ℕ) (t : Tree) (n : ℕ) (r : Box) → Shaped k R P t n r → Shaped k R P t (levels t - 1) r
+at-levels k R P t n r h = subst (λ m. Shaped k R P t m r) (omega (arith, shaped-levels k R P t n r h)) h
+
+top-shaped : (k R P : ℕ) (o : Out) (n : ℕ) (free : List ℕ) → 1 ≤ k → 2 ≤ R → ShapedOut k R P o n (whole k) → Shaped k R P (atTop k o free) (levels (atTop k o free) - 1) (whole k)
+top-shaped k R P (one t u) n free hk hr h = at-levels k R P t n (whole k) h
+top-shaped k R P (two d x l r u) n free hk hr h =
+    at-levels k R P (atTop k (two d x l r u) free) (suc n) (whole k)
+    (record { filled = omega arith; room = hr; domain = hk; tiled = two-tile d x (whole k) (h .0) (whole-solid k) }, (h .1, (h .2, tt)))
+
+top-records : (k : ℕ) (g : Rec → Bool) (o : Out) (free : List ℕ) → tally g (records (atTop k o free)) ≡ recordsIn g o
+top-records k g (one t u) free = refl
+top-records k g (two d x l r u) free = simp tally-append (omega arith)
+
+top-pages : (k : ℕ) (g : ℕ → Bool) (o : Out) (free : List ℕ) (old : ℕ) → claimed o ≤ length free → (used o ≤ length free → pagesIn g o ≡ old + tally g (take (used o) free))
+    → tally g (pages (atTop k o free)) ≡ old + tally g (take (claimed o) free)
+top-pages k g (one t u) free old h f = f h
+top-pages k g (two d x l r u) free old h f =
+    let e = ap (tally g) (take-suc free u 0 h) ∙ tally-append g (take u free) (getD free u 0 ∷ []) in
+    simp tally-append (omega (arith, f (omega arith)))
+
+-- placing on a well-formed state a record whose key lies in the space and is new
+pub record Placing (L k N : ℕ) (s : State) (q : Rec) : Type 0 where
+  pub roomy : Roomy L k
+  pub formed : WellFormed L k N s
+  pub inside : T (within (whole k) (q .key))
+  pub new : tally (λ r. same (q .key) (r .key)) (recordsOf s) ≡ 0
+
+module _ (L k N : ℕ) where
+  placing-grown : (t : Tree) (q : Rec) (free : List ℕ) → Placing L k N (some t) q → Grown k (regionsPer L k) (pointsPer L k) t q free (levels t - 1) (whole k)
+  placing-grown t q free p =
+      grow-ok k (regionsPer L k) (pointsPer L k) (p .roomy .points) (omega (arith, p .roomy .regions)) t (levels t - 1) q free (whole k) (p .formed .shape) (whole-length k) (p .inside) (p .new)
+
+  pub formed-fair : (t : Tree) (q : Rec) (free : List ℕ) → Placing L k N (some t) q → Fair k (regionsPer L k) (pointsPer L k) t q free
+  formed-fair t q free p = placing-grown t q free p .fair
+
+  -- the steps succeed exactly if the free pages suffice
+  pub placed-some : (s : State) (q : Rec) → Placing L k N s q → claims k (regionsPer L k) (pointsPer L k) N s q ≤ length (freeOf N (pagesOf s))
+      → placed k (regionsPer L k) (pointsPer L k) N s q ≡ some (some (after k (regionsPer L k) (pointsPer L k) N s q))
+  placed-some none q p h = first-enough q (freeOf N []) h
+  placed-some (some t) q p h =
+      ap (topped k) (placing-grown t q (freeOf N (pages t)) p .made) ∙ topped-enough k (grown k (regionsPer L k) (pointsPer L k) t q (freeOf N (pages t))) (freeOf N (pages t)) h
+
+  pub placed-none : (s : State) (q : Rec) → Placing L k N s q → length (freeOf N (pagesOf s)) < claims k (regionsPer L k) (pointsPer L k) N s q
+      → placed k (regionsPer L k) (pointsPer L k) N s q ≡ none
+  placed-none none q p h = first-short q (freeOf N []) h
+  placed-none (some t) q p h =
+      ap (topped k) (placing-grown t q (freeOf N (pages t)) p .made) ∙ topped-short k (grown k (regionsPer L k) (pointsPer L k) t q (freeOf N (pages t))) (freeOf N (pages t)) h
+
+  pub placed-none-iff : (s : State) (q : Rec) → Placing L k N s q
+      → (placed k (regionsPer L k) (pointsPer L k) N s q ≡ none) ↔ (length (freeOf N (pagesOf s)) < claims k (regionsPer L k) (pointsPer L k) N s q)
+  placed-none-iff s q p =
+      let n = claims k (regionsPer L k) (pointsPer L k) N s q in
+      let free = freeOf N (pagesOf s) in (
+        λ e. bool (leb n (length free)) (λ t. let f = placed-some s q p (leb→le n (length free) t) in let z : _≡_ {A = ℕ} 0 1 = cc in absurd (omega arith)) (λ t. nleb→lt n (length free) t),
+        placed-none s q p,
+      )
+
+  -- the pages after: the old ones and the first of the free ones
+  pub after-pages : (s : State) (q : Rec) (g : ℕ → Bool) → Placing L k N s q → claims k (regionsPer L k) (pointsPer L k) N s q ≤ length (freeOf N (pagesOf s))
+      → tally g (pages (after k (regionsPer L k) (pointsPer L k) N s q)) ≡ tally g (pagesOf s) + tally g (take (claims k (regionsPer L k) (pointsPer L k) N s q) (freeOf N (pagesOf s)))
+  after-pages none q g p h = go (freeOf N []) h
+    where
+      go : (free : List ℕ) → 1 ≤ length free → tally g (getD free 0 0 ∷ []) ≡ 0 + tally g (take 1 free)
+      go [] h = absurd (omega arith)
+      go (r ∷ free) h = omega arith
+  after-pages (some t) q g p h =
+      let free = freeOf N (pages t) in
+      top-pages k g (grown k (regionsPer L k) (pointsPer L k) t q free) free (tally g (pages t)) h (placing-grown t q free p .fit .paged g)
+
+  pub after-records : (s : State) (q : Rec) (g : Rec → Bool) → Placing L k N s q → tally g (records (after k (regionsPer L k) (pointsPer L k) N s q)) ≡ tally g (recordsOf s) + bit (g q)
+  after-records none q g p = omega arith
+  after-records (some t) q g p =
+      let free = freeOf N (pages t) in
+      top-records k g (grown k (regionsPer L k) (pointsPer L k) t q free) free ∙ placing-grown t q free p .fit .held g
+
+  pub after-formed : (s : State) (q : Rec) → Placing L k N s q → claims k (regionsPer L k) (pointsPer L k) N s q ≤ length (freeOf N (pagesOf s))
+      → WellFormed L k N (some (after k (regionsPer L k) (pointsPer L k) N s q))
+  after-formed s q p h =
+      record {
+        domains = p .formed .domains;
+        pages = p .formed .pages;
+        numbered = numbered-more N (pagesOf s) (pages (after k (regionsPer L k) (pointsPer L k) N s q)) (claims k (regionsPer L k) (pointsPer L k) N s q) (p .formed .numbered) (λ c. after-pages s q (eqb c) p h);
+        shape = shape s p;
+      }
+    where
+      shape : (s : State) → Placing L k N s q → ShapedS L k (some (after k (regionsPer L k) (pointsPer L k) N s q))
+      shape none p = (refl, record { room = p .roomy .points; domain = p .roomy .domains; inside = and-i (within (whole k) (q .key)) _ (p .inside) tt; distinct = tt })
+      shape (some t) p =
+          let free = freeOf N (pages t) in
+          top-shaped k (regionsPer L k) (pointsPer L k) (grown k (regionsPer L k) (pointsPer L k) t q free) (levels t - 1) free (p .roomy .domains) (p .roomy .regions) (placing-grown t q free p .fit .shaped)
+
+  -- a state that the steps give
+  pub record Placed (s s′ : State) (q : Rec) : Type 0 where
+    pub formed : WellFormed L k N s′
+    pub held : (g : Rec → Bool) → tally g (recordsOf s′) ≡ tally g (recordsOf s) + bit (g q)
+    pub enough : claims k (regionsPer L k) (pointsPer L k) N s q ≤ length (freeOf N (pagesOf s))
+    pub paged : (g : ℕ → Bool) → tally g (pagesOf s′) ≡ tally g (pagesOf s) + tally g (take (claims k (regionsPer L k) (pointsPer L k) N s q) (freeOf N (pagesOf s)))
+
+  pub placed-formed : (s s′ : State) (q : Rec) → Placing L k N s q → placed k (regionsPer L k) (pointsPer L k) N s q ≡ some s′ → Placed s s′ q
+  placed-formed s s′ q p e =
+      let n = claims k (regionsPer L k) (pointsPer L k) N s q in
+      let free = freeOf N (pagesOf s) in
+      bool (leb n (length free))
+      (λ t. let h = leb→le n (length free) t in
+      let f = placed-some s q p h in
+      let i : some (after k (regionsPer L k) (pointsPer L k) N s q) ≡ s′ = cc in
+      subst (λ z. Placed s z q) i (record { formed = after-formed s q p h; held = λ g. after-records s q g p; enough = h; paged = λ g. after-pages s q g p h }))
+      (λ t. let f = placed-none s q p (nleb→lt n (length free) t) in let z : _≡_ {A = ℕ} 0 1 = cc in absurd (omega arith))
