@@ -4,6 +4,7 @@ pub mod Tiling
 pub mod Cut
 pub mod Split
 pub mod Fair
+pub mod Grow
 pub mod Stands
 pub mod Calls
 pub mod Pages

@@ -10,6 +10,11 @@ use native.Mathlib.Nat.{zero-mul, suc-mul}
 use lib.Dec.{T, T-not, leb, ltb, eqb, leb→le, le→leb, ltb→lt, lt→ltb, nleb→lt, nltb→le, eqb→eq, eqb-refl}
 use lib.ListN.{length, take, drop, getD, length-append}
 use lib.Seq.{take-append-add, take-take}
+use mathlib.Core.Path.{_≡_, refl, sym, ap, ap₂, _∙_, subst}
+use Prim.Native.Nat.{ℕ, zero, suc, _+_, _-_, _<_, _≤_, min}
+use native.Mathlib.Omega.{arith}
+use lib.Dec.{T, leb, ltb, eqb, leb→le, le→leb, ltb→lt, lt→ltb, nleb→lt, nltb→le, eqb→eq, eqb-refl, T-not}
+use lib.ListN.{length, take, drop, getD, length-append, take-append-drop}
 use borrow.Author.Tests.{eq-eqb, ne-eqb}
 use Rattle.kdb.specs.Lists.{bit, only, tally, every, any, Each, gather, sum, many, upFrom, pad, same}
 
@@ -463,3 +468,34 @@ and-assoc false b c = refl
 pub and-true : (a : Bool) → a && true ≡ a
 and-true true = refl
 and-true false = refl
+-- by cases on a test that chooses between two
+pub by-case {ℓ κ} : {A : Type κ} (P : A → Type ℓ) (s : Bool) (y z : A) → (T s → P y) → (T (not s) → P z) → P (elim s as (λ _. A) [ true ↦ y | false ↦ z ])
+by-case P true y z f g = f tt
+by-case P false y z f g = g tt
+
+-- the numbers from a on, each once; and a part of a list
+pub upFrom-in : (n a c : ℕ) → 1 ≤ many c (upFrom n a) → (a ≤ c) × (c < a + n)
+upFrom-in zero a c h = absurd (omega arith)
+upFrom-in (suc n) a c h =
+    bool (eqb c a) (λ t. let e = eqb→eq c a t in (omega arith, omega arith))
+    (λ t. let i = upFrom-in n (suc a) c (omega (arith, no-bit (eqb c a) (T-not (eqb c a) t))) in (omega arith, omega arith))
+
+pub upFrom-once : (n a c : ℕ) → many c (upFrom n a) ≤ 1
+upFrom-once zero a c = omega arith
+upFrom-once (suc n) a c =
+    bool (leb 1 (many c (upFrom n (suc a))))
+    (λ t. let i = upFrom-in n (suc a) c (leb→le 1 (many c (upFrom n (suc a))) t) in
+    omega (arith, no-bit (eqb c a) (λ y. omega (arith, eqb→eq c a y)), upFrom-once n (suc a) c))
+    (λ t. omega (arith, nleb→lt 1 (many c (upFrom n (suc a))) t, bit-most (eqb c a)))
+
+pub tally-take {ℓ} : {A : Type ℓ} (g : A → Bool) (n : ℕ) (l : List A) → tally g (take n l) ≤ tally g l
+tally-take g n l =
+    let e : tally g l ≡ tally g (take n l) + tally g (drop n l) = ap (tally g) (sym (take-append-drop n l)) ∙ tally-append g (take n l) (drop n l) in
+    omega arith
+
+-- a number that a test keeps passes it
+pub many-only : (f : ℕ → Bool) (c : ℕ) (l : List ℕ) → 1 ≤ many c (only f l) → T (f c)
+many-only f c l h =
+    let i = found (eqb c) (only f l) h in
+    let e : c ≡ i .0 = eqb→eq c (i .0) (i .1) in
+    subst (λ a. T (f a)) (sym e) (every-in f (i .0) (only f l) (every-only f (λ _. true) f (λ a t _. t) l (in-every (λ _. true) l (λ _ _. tt))) (i .2))
