@@ -27,6 +27,7 @@ use Rattle.kdb.proofs.Print.{read-state}
 use Rattle.kdb.proofs.Pool.{print-sound, sound-iff, Sound-stands, length-iff, header-iff}
 use Rattle.kdb.proofs.Format.{formatted-printed, none-formed}
 
+use Rattle.kdb.proofs.Grow.{roomy-32, placed-formed}
 use Rattle.kdb.proofs.Reading.{Answers, find-rootless, find-answers}
 use Rattle.kdb.proofs.Calls.{done, refusal-keeps, check-still, find-still, list-still}
 use Rattle.kdb.proofs.History.{without-tally, changed-same, keeps-run}
@@ -109,3 +110,30 @@ remove-steps w p z =
     go bad q z r = absurd (omega arith)
     go (absent j) q z r = absurd (omega arith)
     go (here x) q z r = ((x, q), r)
+
+-- a done place leaves a sound pool with one record more
+place-after : (w work p : List ℕ) (l : ℕ) → outcome w (place work p l) .number ≡ 0
+    → Sound L (outcome w (place work p l) .after .pool) × SameRecords (recordsOf (stateOf L (outcome w (place work p l) .after .pool))) (recordsOf (stateOf L w) ++ (record { key = p; loc = l } ∷ []))
+place-after w work p l z =
+    let h = place-steps w work p l z in
+    let k = domains w in
+    let N = pagesIn L w in
+    let q : Rec = record { key = p; loc = l } in
+    let st = Sound-stands L w (h .0 .well) big in
+    let s = h .2 .0 in
+    let f = placed-formed L k N (stateOf L w) s q
+          (record { roomy = roomy-32 k (st .formed .domains .0) (st .formed .domains .1); formed = st .formed; inside = passed-within w p (h .0); new = h .1 }) (h .2 .1) in
+    let e = sym (h .2 .2) in
+    (subst (Sound L) e (printed-sound k N s (f .formed)),
+     subst (λ v. SameRecords (recordsOf (stateOf L v)) (recordsOf (stateOf L w) ++ (q ∷ []))) e
+     (λ g. ap (λ t. tally g (recordsOf t)) (read-state L k N s big (f .formed)) ∙ omega (arith, f .held g, tally-append g (recordsOf (stateOf L w)) (q ∷ []))))
+
+format-after : (w : List ℕ) (k : ℕ) → outcome w (format k) .number ≡ 0
+    → Sound L (outcome w (format k) .after .pool) × SameRecords (recordsOf (stateOf L (outcome w (format k) .after .pool))) []
+format-after w k z =
+    let d = done w (format k) z in
+    let long = and-l (goodLength L w) _ (d .0) in
+    let formed = none-formed w k long (and-l (goodDomains k) _ (and-r (goodLength L w) _ (d .0))) in
+    let e : printed L k (pagesIn L w) none ≡ outcome w (format k) .after .pool = sym (ap (λ o. o .after .pool) (d .1) ∙ formatted-printed w k long) in
+    (subst (Sound L) e (printed-sound k (pagesIn L w) none formed),
+     subst (λ v. SameRecords (recordsOf (stateOf L v)) []) e (λ g. ap (λ t. tally g (recordsOf t)) (read-state L k (pagesIn L w) none big formed)))
