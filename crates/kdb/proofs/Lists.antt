@@ -499,3 +499,13 @@ many-only f c l h =
     let i = found (eqb c) (only f l) h in
     let e : c ≡ i .0 = eqb→eq c (i .0) (i .1) in
     subst (λ a. T (f a)) (sym e) (every-in f (i .0) (only f l) (every-only f (λ _. true) f (λ a t _. t) l (in-every (λ _. true) l (λ _ _. tt))) (i .2))
+
+-- a test counted in two parts by another
+pub tally-parts {ℓ} : {A : Type ℓ} (f g : A → Bool) (l : List A) → tally f l ≡ tally (λ a. f a && g a) l + tally (λ a. f a && not (g a)) l
+tally-parts f g [] = refl
+tally-parts f g (a ∷ l) = omega (arith, go (f a) (g a), tally-parts f g l)
+  where
+    go : (b c : Bool) → bit b ≡ bit (b && c) + bit (b && not c)
+    go true true = refl
+    go true false = refl
+    go false c = refl
