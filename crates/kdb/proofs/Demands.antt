@@ -20,14 +20,13 @@ use Rattle.kdb.specs.Walk.{Spot, End, rootless, bad, absent, here, findW
 use Rattle.kdb.specs.Calls.{L, Call, format, check, place, remove, find, list, Outcome, lent, tests, begins, core, goodDomains, finite, present, placing, removing, stepped, formatted, outcome}
 use Rattle.kdb.specs.History.{Answer, answerOf, run, answers, change, changed, live, Keeps}
 use Rattle.kdb.specs.Demands.{SameRecords, keyed, liveAfter, Demand2, ByTheSteps}
-use Rattle.kdb.proofs.Lists.{and-l, and-r, and-i, bool, cases, tally-append, some-many, same-refl, In}
+use Rattle.kdb.proofs.Lists.{and-l, and-r, and-i, bool, cases, tally-append, to-bit, no-bit, same-refl, In}
 use Rattle.kdb.proofs.Stands.{Stands}
 use Rattle.kdb.proofs.Views.{finite-whole}
 use Rattle.kdb.proofs.Print.{read-state}
 use Rattle.kdb.proofs.Pool.{print-sound, sound-iff, Sound-stands, length-iff, header-iff}
 use Rattle.kdb.proofs.Format.{formatted-printed, none-formed}
-
-use Rattle.kdb.proofs.Grow.{roomy-32, placed-formed}
+use Rattle.kdb.proofs.Grow.{roomy-32, placed-formed, removed-formed, key-once}
 use Rattle.kdb.proofs.Reading.{Answers, find-rootless, find-answers}
 use Rattle.kdb.proofs.Calls.{done, refusal-keeps, check-still, find-still, list-still}
 use Rattle.kdb.proofs.History.{without-tally, changed-same, keeps-run}
@@ -122,11 +121,12 @@ place-after w work p l z =
     let st = Sound-stands L w (h .0 .well) big in
     let s = h .2 .0 in
     let f = placed-formed L k N (stateOf L w) s q
-          (record { roomy = roomy-32 k (st .formed .domains .0) (st .formed .domains .1); formed = st .formed; inside = passed-within w p (h .0); new = h .1 }) (h .2 .1) in
-    let e = sym (h .2 .2) in
-    (subst (Sound L) e (printed-sound k N s (f .formed)),
-     subst (λ v. SameRecords (recordsOf (stateOf L v)) (recordsOf (stateOf L w) ++ (q ∷ []))) e
-     (λ g. ap (λ t. tally g (recordsOf t)) (read-state L k N s big (f .formed)) ∙ omega (arith, f .held g, tally-append g (recordsOf (stateOf L w)) (q ∷ []))))
+    (record { roomy = roomy-32 k (st .formed .domains .0) (st .formed .domains .1); formed = st .formed; inside = passed-within w p (h .0); new = h .1 }) (h .2 .1) in
+    let e = sym (h .2 .2) in (
+      subst (Sound L) e (printed-sound k N s (f .formed)),
+      subst (λ v. SameRecords (recordsOf (stateOf L v)) (recordsOf (stateOf L w) ++ (q ∷ []))) e
+          (λ g. ap (λ t. tally g (recordsOf t)) (read-state L k N s big (f .formed)) ∙ omega (arith, f .held g, tally-append g (recordsOf (stateOf L w)) (q ∷ []))),
+    )
 
 format-after : (w : List ℕ) (k : ℕ) → outcome w (format k) .number ≡ 0
     → Sound L (outcome w (format k) .after .pool) × SameRecords (recordsOf (stateOf L (outcome w (format k) .after .pool))) []
@@ -134,6 +134,124 @@ format-after w k z =
     let d = done w (format k) z in
     let long = and-l (goodLength L w) _ (d .0) in
     let formed = none-formed w k long (and-l (goodDomains k) _ (and-r (goodLength L w) _ (d .0))) in
-    let e : printed L k (pagesIn L w) none ≡ outcome w (format k) .after .pool = sym (ap (λ o. o .after .pool) (d .1) ∙ formatted-printed w k long) in
-    (subst (Sound L) e (printed-sound k (pagesIn L w) none formed),
-     subst (λ v. SameRecords (recordsOf (stateOf L v)) []) e (λ g. ap (λ t. tally g (recordsOf t)) (read-state L k (pagesIn L w) none big formed)))
+    let e : printed L k (pagesIn L w) none ≡ outcome w (format k) .after .pool = sym (ap (λ o. o .after .pool) (d .1) ∙ formatted-printed w k long) in (
+      subst (Sound L) e (printed-sound k (pagesIn L w) none formed),
+      subst (λ v. SameRecords (recordsOf (stateOf L v)) []) e (λ g. ap (λ t. tally g (recordsOf t)) (read-state L k (pagesIn L w) none big formed)),
+    )
+
+-- of the records with a key, those that pass a test and those that fail it
+keyed-halves : (p : Key) (g : Rec → Bool) (rs : List Rec) → tally (λ r. same p (r .key) && g r) rs + tally (λ r. same p (r .key) && not (g r)) rs ≡ tally (keyed p) rs
+keyed-halves p g [] = refl
+keyed-halves p g (r ∷ rs) = omega (arith, keyed-halves p g rs, go (same p (r .key)) (g r))
+  where
+    go : (s t : Bool) → bit (s && t) + bit (s && not t) ≡ bit s
+    go true true = refl
+    go true false = refl
+    go false t = refl
+
+-- a key that stands once: its record passes the test exactly if a record with the key does
+one-keyed : (p : Key) (g : Rec → Bool) (r : Rec) (rs : List Rec) → In r rs → r .key ≡ p → tally (keyed p) rs ≤ 1 → bit (g r) ≡ tally (λ q. same p (q .key) && g q) rs
+one-keyed p g r rs i e once =
+    let k : T (same p (r .key)) = rw e (same-refl p) in
+    let h = keyed-halves p g rs in
+    bool (g r)
+    (λ t. omega (arith, to-bit (g r) t, i .counted (λ q. same p (q .key) && g q) (and-i (same p (r .key)) _ k t)))
+    (λ n. omega (arith, no-bit (g r) (T-not (g r) n), i .counted (λ q. same p (q .key) && not (g q)) (and-i (same p (r .key)) _ k n)))
+
+-- a done remove leaves a sound pool without the record
+remove-after : (w p : List ℕ) → outcome w (remove p) .number ≡ 0
+    → Sound L (outcome w (remove p) .after .pool) × SameRecords (recordsOf (stateOf L (outcome w (remove p) .after .pool))) (change (remove p) (recordsOf (stateOf L w)))
+remove-after w p z =
+    let h = remove-steps w p z in
+    let k = domains w in
+    let N = pagesIn L w in
+    let s = stateOf L w in
+    let st = Sound-stands L w (h .0 .well) big in
+    let f = removed-formed L k N s p (st .formed) in
+    let e = sym (h .2) in
+    let once = key-once L k N s p (st .formed) in
+    let i = gone s st (passed-within w p (h .0)) (h .1 .0) (h .1 .1) in (
+      subst (Sound L) e (printed-sound k N (removed s p) (f .formed)),
+      subst (λ v. SameRecords (recordsOf (stateOf L v)) (change (remove p) (recordsOf s))) e
+          (λ g. ap (λ t. tally g (recordsOf t)) (read-state L k N (removed s p) big (f .formed))
+          ∙ omega (arith, f .less (h .1 .0 .rec) (i .1) (i .0) g, without-tally p g (recordsOf s) once, one-keyed p g (h .1 .0 .rec) (recordsOf s) (i .1) (i .0) once)),
+    )
+  where
+    gone : (s : State) → Stands L w s → T (within (whole (domains w)) p) → (x : Spot) → findWalk L w p .end ≡ here x → (x .rec .key ≡ p) × In (x .rec) (recordsOf s)
+    gone none st i x e = absurd (let z : _≡_ {A = ℕ} 0 1 = cc (find-rootless L w p st) in omega arith)
+    gone (some t) st i x e = subst (Answers (records t) p) e (find-answers L w p t st i)
+
+-- a call that left the pool as it was
+still-after : (w v : List ℕ) → Sound L w → v ≡ w → Sound L v × SameRecords (recordsOf (stateOf L v)) (recordsOf (stateOf L w))
+still-after w v s e = rw e (s, λ g. refl)
+
+-- one call on a sound pool
+pub call-after : (w : List ℕ) (c : Call) → Sound L w → After w c
+call-after w c s = go (outcome w c .number) refl
+  where
+    done-after : (c : Call) → outcome w c .number ≡ 0
+        → Sound L (outcome w c .after .pool) × SameRecords (recordsOf (stateOf L (outcome w c .after .pool))) (change c (recordsOf (stateOf L w)))
+    done-after (format k) z = format-after w k z
+    done-after check z = still-after w (outcome w check .after .pool) s (check-still w .still)
+    done-after (place work p l) z = place-after w work p l z
+    done-after (remove p) z = remove-after w p z
+    done-after (find p) z = still-after w (outcome w (find p) .after .pool) s (find-still w p .still)
+    done-after (list v a) z = still-after w (outcome w (list v a) .after .pool) s (list-still w v a .still)
+
+    go : (n : ℕ) → outcome w c .number ≡ n → After w c
+    go zero e = let d = done-after c e in record { sound = d .0; same = rw e (d .1) }
+    go (suc n) e =
+        let q = refusal-keeps w c .kept (λ z. omega arith) in
+        let d = still-after w (outcome w c .after .pool) s q in
+        record { sound = d .0; same = rw e (d .1) }
+
+-- the live records are the pool's, and the pool stays sound, over any calls; rs holds the pool's records by counts
+run-after : (w : List ℕ) (cs : List Call) (rs : List Rec) → Sound L w → SameRecords (recordsOf (stateOf L w)) rs
+    → Sound L (run w cs) × SameRecords (recordsOf (stateOf L (run w cs))) (live rs cs (answers w cs))
+run-after w [] rs s e = (s, e)
+run-after w (c ∷ cs) rs s e =
+    let a = call-after w c s in
+    let once : (p : Key) → tally (keyed p) (recordsOf (stateOf L w)) ≤ 1 = λ p. key-once L (domains w) (pagesIn L w) (stateOf L w) p (Sound-stands L w s big .formed) in
+    run-after (outcome w c .after .pool) cs (changed (outcome w c .number) c rs) (a .sound)
+    (λ g. a .same g ∙ changed-same (outcome w c .number) c (recordsOf (stateOf L w)) rs once e g)
+
+-- Demand 2, from any sound pool
+pub demand2 : (w : List ℕ) (cs : List Call) → Sound L w → Demand2 w cs
+demand2 w cs s =
+    let r = run-after w cs (recordsOf (stateOf L w)) s (λ g. refl) in
+    let v = run w cs in
+    let once : (p : Key) → tally (keyed p) (liveAfter w cs) ≤ 1 =
+    λ p. omega (arith, r .1 (keyed p), key-once L (domains v) (pagesIn L v) (stateOf L v) p (Sound-stands L v (r .0) big .formed)) in
+    record {
+      sound = r .0;
+      contents = r .1;
+      once = once;
+      lists = list-answers v (r .0) (liveAfter w cs) (r .1);
+      finds = find-finds v (r .0) (liveAfter w cs) (r .1) once;
+    }
+
+-- from an accepted format, whatever the pool held before it
+pub demand2-format : (w : List ℕ) (k : ℕ) (cs : List Call) → outcome w (format k) .number ≡ 0 → Demand2 (outcome w (format k) .after .pool) cs
+demand2-format w k cs z = demand2 (outcome w (format k) .after .pool) cs (format-after w k z .0)
+
+-- any code whose calls keep their promises: the pool after them is the definitions', and so are the answers
+pub demand2-code : (w v : List ℕ) (cs : List Call) (os : List Outcome) → Sound L w → Keeps w cs os v
+    → Demand2 w cs × (v ≡ run w cs) × (map answerOf os ≡ answers w cs)
+demand2-code w v cs os s k = let r = keeps-run k in (demand2 w cs s, r .0, r .1)
+
+-- the steps are Robinson's
+pub by-the-steps : (w : List ℕ) → ByTheSteps w
+by-the-steps w =
+    record {
+      places = λ work p l z.
+          let h = place-steps w work p l z in
+          let k = domains w in
+          let st = Sound-stands L w (h .0 .well) big in
+          let f = placed-formed L k (pagesIn L w) (stateOf L w) (h .2 .0) (record { key = p; loc = l })
+          (record { roomy = roomy-32 k (st .formed .domains .0) (st .formed .domains .1); formed = st .formed; inside = passed-within w p (h .0); new = h .1 }) (h .2 .1) in
+          (h .2 .0, h .2 .1, h .2 .2, ap (stateOf L) (h .2 .2) ∙ read-state L k (pagesIn L w) (h .2 .0) big (f .formed));
+      removes = λ p z.
+          let h = remove-steps w p z in
+          let st = Sound-stands L w (h .0 .well) big in
+          (h .2, ap (stateOf L) (h .2) ∙ read-state L (domains w) (pagesIn L w) (removed (stateOf L w) p) big (removed-formed L (domains w) (pagesIn L w) (stateOf L w) p (st .formed) .formed));
+    }

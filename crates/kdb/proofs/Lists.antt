@@ -441,6 +441,7 @@ module _ {ℓ} {A : Type ℓ} where
 
   pub every-imp : (f g : A → Bool) → ((a : A) → T (f a) → T (g a)) → (l : List A) → T (every f l) → T (every g l)
   every-imp f g h l t = in-every g l (λ a m. h a (every-in f a l t m))
+
 -- a number of the n from a on, and what is counted in lists joined
 pub many-up : (n a i : ℕ) → a ≤ i → i < a + n → 1 ≤ many i (upFrom n a)
 many-up zero a i h g = absurd (omega arith)
@@ -456,6 +457,7 @@ tally-gather h g (a ∷ l) i k m =
     bool (eqb i a)
     (λ t. let q : tally h (g i) ≡ tally h (g a) = ap (λ j. tally h (g j)) (eqb→eq i a t) in omega arith)
     (λ t. omega (arith, tally-gather h g l i (omega (arith, no-bit (eqb i a) (T-not (eqb i a) t))) m))
+
 -- flags
 pub and-t : (a b : Bool) → a && b ≡ true → (a ≡ true) × (b ≡ true)
 and-t true b t = (refl, t)
@@ -468,6 +470,7 @@ and-assoc false b c = refl
 pub and-true : (a : Bool) → a && true ≡ a
 and-true true = refl
 and-true false = refl
+
 -- by cases on a test that chooses between two
 pub by-case {ℓ κ} : {A : Type κ} (P : A → Type ℓ) (s : Bool) (y z : A) → (T s → P y) → (T (not s) → P z) → P (elim s as (λ _. A) [ true ↦ y | false ↦ z ])
 by-case P true y z f g = f tt
