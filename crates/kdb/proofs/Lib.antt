@@ -9,4 +9,5 @@ pub mod Print
 pub mod Walk
 pub mod Local
 pub mod Reading
+pub mod History
 pub mod Cases
