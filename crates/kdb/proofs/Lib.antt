@@ -6,6 +6,8 @@ pub mod Pages
 pub mod Views
 pub mod Stands
 pub mod Print
+pub mod Pool
+pub mod Own
 pub mod Walk
 pub mod Local
 pub mod Reading

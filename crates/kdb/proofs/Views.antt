@@ -42,7 +42,7 @@ or-blank blank = refl
 or-blank (points d rs) = refl
 or-blank (regions d es) = refl
 
-or-first : (a b : Page) → T (inUse a) → orPage a b ≡ a
+pub or-first : (a b : Page) → T (inUse a) → orPage a b ≡ a
 or-first blank b h = absurd h
 or-first (points d rs) b h = refl
 or-first (regions d es) b h = refl
@@ -72,7 +72,7 @@ mutual
       rw (page-out t c (omega arith)) (page-outF f c (omega arith))
 
 -- by cases on whether c is p
-at {ℓ} : {C : Type ℓ} (c p : ℕ) → (c ≡ p → C) → (eqb c p ≡ false → C) → C
+pub at {ℓ} : {C : Type ℓ} (c p : ℕ) → (c ≡ p → C) → (eqb c p ≡ false → C) → C
 at c p f g = bool (eqb c p) (λ t. f (eqb→eq c p t)) (λ t. g (is-false (eqb c p) t))
 
 -- by cases on whether c is in the list

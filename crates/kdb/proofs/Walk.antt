@@ -83,7 +83,7 @@ module _ (L : ℕ) (w : List ℕ) where
       at-page (λ (t : Search). T (every (isPage L w) (t .read))) (isPage L w j) (goodRegions L w j) _ _ _
       (λ h. and-i (isPage L w j) _ h (into-every (isPage L w) (seek L w p n) p (seek-pages p n) (entsIn (view L w j)))) (λ h. and-i (isPage L w j) true h tt) tt
 
-  list-pages : (v : Box) → T (every (isPage L w) (listWalk L w v .read))
+  pub list-pages : (v : Box) → T (every (isPage L w) (listWalk L w v .read))
   list-pages v =
       let N = pagesIn L w in
       let t = tour L w v (levelsAt w - 1) (rootAt w) in
