@@ -1,23 +1,22 @@
 -- A page's own region. `ownIn` finds it in the tree; `own-region`: the own region that document 01 reads from the words, by the entry that
 -- names the page, is the region under which the page stands in the tree.
-use mathlib.Core.Bool.{Bool, true, false, not, cond}
+use mathlib.Core.Bool.{true, false, cond}
 use mathlib.Core.List.{List, [], _∷_, _++_}
 use mathlib.Core.Logic.{_⊎_, inl, inr}
 use mathlib.Core.Option.{Option, none, some}
-use mathlib.Core.Path.{_≡_, refl, sym, ap, ap₂, _∙_, subst}
-use Prim.Native.Nat.{ℕ, zero, suc, _+_, _-_, _<_, _≤_}
+use mathlib.Core.Path.{_≡_, refl, sym, ap, _∙_, subst}
+use Prim.Native.Nat.{ℕ, _+_, _-_, _≤_}
 use native.Mathlib.Omega.{arith}
-use lib.Dec.{T, T-not, eqb, eqb→eq}
-use lib.ListN.{length}
-use borrow.Author.Tests.{eq-eqb, ne-eqb}
-use Rattle.kdb.specs.Lists.{bit, tally, gather, many, upFrom}
+use lib.Dec.{T, eqb}
+use borrow.Author.Tests.{eq-eqb}
+use Rattle.kdb.specs.Lists.{bit, tally, gather, many}
 use Rattle.kdb.specs.Box.{Box, whole}
 use Rattle.kdb.specs.Tree.{Tree, leaf, node, Forest, fnil, fcons, State, root, pages, pagesF}
-use Rattle.kdb.specs.Pages.{Ent, Page, blank, points, regions, entsIn, inUse}
+use Rattle.kdb.specs.Pages.{Ent, blank, regions, entsIn, inUse}
 use Rattle.kdb.specs.Pool.{domains, rootAt, pagesIn, numbers, view, naming, ownRegion}
-use Rattle.kdb.specs.Print.{ents, orPage, pageOf, pageOfF, pageAt}
-use Rattle.kdb.proofs.Lists.{bool, self, to-bit, no-bit, of-true, is-true, is-false, tally-append, many-append, many-up, tally-gather}
-use Rattle.kdb.proofs.Views.{at, among, or-first, page-in, page-out, page-outF}
+use Rattle.kdb.specs.Print.{ents, orPage, pageOf, pageOfF}
+use Rattle.kdb.proofs.Lists.{self, to-bit, of-true, is-true, tally-append, many-append, many-up, tally-gather}
+use Rattle.kdb.proofs.Views.{at, miss, among, or-first, page-in, page-out}
 use Rattle.kdb.proofs.Stands.{Stands}
 
 abbrev pub orBox : Option Box → Option Box → Option Box
@@ -38,13 +37,10 @@ abbrev pub ownOf : ℕ → State → ℕ → Option Box
 ownOf k none j = none
 ownOf k (some t) j = ownIn t (whole k) j
 
-other : (j p m : ℕ) → bit (eqb j p) + m ≡ 0 → eqb j p ≡ false
-other j p m h = at j p (λ e. absurd (let b = to-bit (eqb j p) (of-true (eqb j p) (eq-eqb j p e)) in omega arith)) (λ e. e)
-
 mutual
   pub own-out : (t : Tree) (r : Box) (j : ℕ) → many j (pages t) ≡ 0 → ownIn t r j ≡ none
-  own-out (leaf p d rs) r j h = rw (other j p 0 h)
-  own-out (node p d f) r j h = rw (other j p (many j (pagesF f)) h) (own-outF f j (omega arith))
+  own-out (leaf p d rs) r j h = rw (miss j p 0 h)
+  own-out (node p d f) r j h = rw (miss j p (many j (pagesF f)) h) (own-outF f j (omega arith))
 
   pub own-outF : (f : Forest) (j : ℕ) → many j (pagesF f) ≡ 0 → ownInF f j ≡ none
   own-outF fnil j h = refl
@@ -67,7 +63,7 @@ no-some b e = absurd (let q : _≡_ {A = ℕ} 0 1 = cc in omega arith)
 -- nor is it the page above them
 not-top : (p : ℕ) (f : Forest) (j : ℕ) (b : Box) → bit (eqb j p) + many j (pagesF f) ≤ 1 → ownInF f j ≡ some b → eqb j p ≡ false
 not-top p f j b once e =
-    among j (pagesF f) (λ i. other j p 0 (omega arith)) (λ z. no-some b (sym (own-outF f j z) ∙ e))
+    among j (pagesF f) (λ i. miss j p 0 (omega arith)) (λ z. no-some b (sym (own-outF f j z) ∙ e))
 
 module _ (j : ℕ) where
   -- what a page of the tree names is what stands there
@@ -115,7 +111,7 @@ module _ (j : ℕ) where
       where
         go : (1 ≤ names (ents f)) ⊎ ((i : ℕ) × (1 ≤ many i (pagesF f)) × (1 ≤ names (entsIn (pageOfF f i)))) → (i : ℕ) × (1 ≤ many i (p ∷ pagesF f)) × (1 ≤ names (entsIn (cond (eqb i p) (regions d (ents f)) (pageOfF f i))))
         go (inl h) = (p, omega (arith, self p), rw (eq-eqb p p refl) h)
-        go (inr q) = (q .0, omega (arith, q .1), rw (other (q .0) p 0 (omega (arith, once (q .0), q .1))) (q .2))
+        go (inr q) = (q .0, omega (arith, q .1), rw (miss (q .0) p 0 (omega (arith, once (q .0), q .1))) (q .2))
 
     named-byF : (f : Forest) → ((c : ℕ) → many c (pagesF f) ≤ 1) → 1 ≤ many j (pagesF f) → (1 ≤ names (ents f)) ⊎ ((i : ℕ) × (1 ≤ many i (pagesF f)) × (1 ≤ names (entsIn (pageOfF f i))))
     named-byF fnil once h = absurd (omega arith)

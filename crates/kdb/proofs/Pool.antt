@@ -1,30 +1,30 @@
 -- Soundness. `formed-iff`: the test of a well-formed state says what it should. `sound-iff`: the test of a sound pool passes exactly if
 -- every sentence of document 01 holds, and `printed-iff`: exactly if the words are the printed form of a well-formed state.
-use mathlib.Core.Bool.{Bool, true, false, _&&_, not, cond}
+use mathlib.Core.Bool.{Bool, false, _&&_, cond}
 use mathlib.Core.List.{List, [], _∷_, _++_, map}
 use mathlib.Core.Logic.{_↔_}
-use mathlib.Core.Option.{Option, none, some}
+use mathlib.Core.Option.{none, some}
 use mathlib.Core.Path.{_≡_, refl, sym, ap, ap₂, _∙_, subst}
-use Prim.Native.Nat.{ℕ, zero, suc, _+_, _-_, _*_, _/_, _%_, _<_, _≤_}
+use Prim.Native.Nat.{ℕ, zero, suc, _+_, _-_, _*_, _%_, _<_, _≤_}
 use native.Mathlib.Omega.{arith}
 use native.Mathlib.Nat.{mul-zero, mul-mod-right, div-add-mod}
-use lib.Dec.{T, T-not, leb, ltb, eqb, leb→le, ltb→lt, le→leb, lt→ltb, eqb→eq, eqb-refl}
+use lib.Dec.{T, T-not, leb, ltb, eqb, leb→le, ltb→lt, le→leb, lt→ltb, eqb→eq}
 use lib.ListN.{length, getD, drop, length-drop, length-map}
 use borrow.Author.Tests.{eq-eqb, ne-eqb}
-use Rattle.kdb.specs.Lists.{bit, every, any, Each, gather, sum, many, upFrom, pad, same}
+use Rattle.kdb.specs.Lists.{bit, every, Each, gather, sum, many, pad, same}
 use Rattle.kdb.specs.Box.{∞, Box, whole, within, solid}
-use Rattle.kdb.specs.Tiling.{Tiles, Together, Apart}
+use Rattle.kdb.specs.Tiling.{Together, Apart}
 use Rattle.kdb.specs.Tree.{Rec, Tree, leaf, node, Forest, fnil, fcons, State, root, boxes, levels, levelsF, pages, pagesF, records, pagesOf, recordsOf}
 use Rattle.kdb.specs.Shape.{differ, PointPage, RegionPage, Shaped, ShapedF, pointPage, regionPage, shaped, shapedF, Numbered, numbered, ShapedS, shapedS, WellFormed, wellFormed}
 use Rattle.kdb.specs.Pages.{Ent, Page, blank, points, regions, regionsPer, pointsPer, domain, recsIn, entsIn, boxesIn, isPoints, isRegions, inUse, printPage, readRecs, readEnts, readPage, page}
 use Rattle.kdb.specs.Pool.{domains, rootAt, levelsAt, countAt, pagesIn, goodLength, goodHeader, view, numbers, reachedFrom, reached, Paths, Sound}
 use Rattle.kdb.specs.Print.{ents, pageOf, pageAt, header, forest, printed, treeAt, stateOf, sound}
-use Rattle.kdb.proofs.Lists.{bool, and-l, and-r, and-i, is-true, is-false, of-true, of-bit, self, to-bit, same-eq, same-refl, cond-case, every-each, each-every, each-two, zeros-pad, pad-zeros, getD-pad, length-pad, sum-same, sum-none}
+use Rattle.kdb.proofs.Lists.{bool, and-l, and-r, and-i, is-true, is-false, of-true, of-bit, self, to-bit, same-eq, same-refl, cond-case, every-each, each-every, each-two, zeros-pad, pad-zeros, sum-same, sum-none}
 use Rattle.kdb.proofs.Tiling.{tiles-iff}
-use Rattle.kdb.proofs.Pages.{page-length, page-full, pool-ext, word-at, length-recs, recs-keys, points-fit}
+use Rattle.kdb.proofs.Pages.{page-full, pool-ext, word-at, length-recs, recs-keys, points-fit}
 use Rattle.kdb.proofs.Views.{Seen, SeenF, own-seen, page-out, page-in, in-use, among, page-case, boxes-ents, ents-boxes, Under, whole-under, finite-whole, whole-finite, sum-records, recsAt}
 use Rattle.kdb.proofs.Stands.{rootOf, levelsOf, Stands}
-use Rattle.kdb.proofs.Print.{numbered-ranged, some-levels, levels-few, print-length, print-header, print-page, print-word, stands, stands-seen, stands-tree, stands-state}
+use Rattle.kdb.proofs.Print.{header-words, numbered-ranged, some-levels, levels-few, print-length, print-header, print-page, print-word, stands, stands-seen, stands-tree, stands-state}
 
 -- the test of a well-formed state
 and-4 : (a b c d : Bool) → T (a && b && c && d) → T a × T b × T c × T d
@@ -184,16 +184,6 @@ module _ (L : ℕ) (w : List ℕ) where
             (h .zeros),
       )
 
--- the header's words: five, then zeros
-header-words : (L k N : ℕ) (s : State) → 5 ≤ L → pad L (header k N s) ≡ k ∷ N ∷ rootOf s ∷ levelsOf s ∷ length (recordsOf s) ∷ pad (L - 5) []
-header-words L k N s big =
-    let e : L ≡ suc (suc (suc (suc (suc (L - 5))))) = omega arith in
-    ap (λ n. pad n (header k N s)) e ∙ go s
-  where
-    go : (s : State) → pad (suc (suc (suc (suc (suc (L - 5)))))) (header k N s) ≡ k ∷ N ∷ rootOf s ∷ levelsOf s ∷ length (recordsOf s) ∷ pad (L - 5) []
-    go none = refl
-    go (some t) = refl
-
 five-words : (l : List ℕ) → 5 ≤ length l → l ≡ getD l 0 0 ∷ getD l 1 0 ∷ getD l 2 0 ∷ getD l 3 0 ∷ getD l 4 0 ∷ drop 5 l
 five-words [] h = absurd (omega arith)
 five-words (a ∷ []) h = absurd (omega arith)
@@ -213,11 +203,7 @@ module _ (L : ℕ) (big : 5 ≤ L) (w : List ℕ) (s : State) (h : Stands L w s)
       }
 
   stands-size : getD w 1 0 ≡ pagesIn L w
-  stands-size = ap (λ v. getD v 1 0) (h .prints) ∙ (print-word L (domains w) (pagesIn L w) s big (h .formed) 1 (omega arith) ∙ second s)
-    where
-      second : (s : State) → getD (header (domains w) (pagesIn L w) s) 1 0 ≡ pagesIn L w
-      second none = refl
-      second (some t) = refl
+  stands-size = ap (λ v. getD v 1 0) (h .prints) ∙ print-word L (domains w) (pagesIn L w) s big (h .formed) 1 (omega arith)
 
   stands-zeros : T (every (eqb 0) (drop 5 (page L w 0)))
   stands-zeros =
@@ -444,8 +430,8 @@ module _ (L : ℕ) (w : List ℕ) where
   boxes-at-page n [] = refl
   boxes-at-page n (e ∷ es) = ap (λ l. e .box ∷ l) (boxes-at-page n es)
 
-  view-outside : (j : ℕ) → T (inUse (view L w j)) → (1 ≤ j) × (j < pagesIn L w)
-  view-outside j =
+  used-number : (j : ℕ) → T (inUse (view L w j)) → (1 ≤ j) × (j < pagesIn L w)
+  used-number j =
       bool (leb 1 j && ltb j (pagesIn L w))
       (λ t u. (leb→le 1 j (and-l (leb 1 j) _ t), ltb→lt j (pagesIn L w) (and-r (leb 1 j) _ t)))
       (λ t u. absurd (let e : T false = subst (λ c. T (inUse (cond c (readPage (domains w) (page L w j)) blank))) (is-false (leb 1 j && ltb j (pagesIn L w)) t) u in e))
@@ -464,6 +450,10 @@ module _ (L : ℕ) (w : List ℕ) where
     together : T (isRegions (view L w j)) → Together r (boxesIn (view L w j))
     inside : T (every (λ q. within r (q .key)) (recsIn (view L w j)))
 
+-- shaped, with the pool's domains and room
+abbrev ShapedIn : ℕ → List ℕ → Tree → ℕ → Box → Type 0
+ShapedIn L w t n r = Shaped (domains w) (regionsPer L (domains w)) (pointsPer L (domains w)) t n r
+
 module _ (L : ℕ) (w : List ℕ) (S : Sound L w) where
   levels-forest : (n : ℕ) → ((j : ℕ) → Paths L w n j → levels (treeAt L w n j) ≡ suc n) → (es : List Ent) → 1 ≤ length es → Each (λ e. Paths L w n (e .child)) es → levelsF (forest (treeAt L w n) es) ≡ suc n
   levels-forest n g [] l h = absurd (omega arith)
@@ -473,13 +463,13 @@ module _ (L : ℕ) (w : List ℕ) (S : Sound L w) where
   levels-at zero j h = refl
   levels-at (suc n) j h = ap suc (levels-forest n (levels-at n) (entsIn (view L w j)) (S .filled j (h .0)) (h .1))
 
-  shape-forest : (n : ℕ) → ((j : ℕ) (r : Box) → Paths L w n j → Owned L w j r → Shaped (domains w) (regionsPer L (domains w)) (pointsPer L (domains w)) (treeAt L w n j) n r)
+  shape-forest : (n : ℕ) → ((j : ℕ) (r : Box) → Paths L w n j → Owned L w j r → ShapedIn L w (treeAt L w n j) n r)
       → (es : List Ent) → Each (λ e. Paths L w n (e .child)) es → Each (λ e. T (isRegions (view L w (e .child))) → Together (e .box) (boxesIn (view L w (e .child)))) es
       → Each (λ e. T (every (λ q. within (e .box) (q .key)) (recsIn (view L w (e .child))))) es → ShapedF (domains w) (regionsPer L (domains w)) (pointsPer L (domains w)) (forest (treeAt L w n) es) n
   shape-forest n g [] p a b = tt
   shape-forest n g (e ∷ es) p a b = (g (e .child) (e .box) (p .0) (record { together = a .0; inside = b .0 }), shape-forest n g es (p .1) (a .1) (b .1))
 
-  shape-at : (n j : ℕ) (r : Box) → Paths L w n j → Owned L w j r → Shaped (domains w) (regionsPer L (domains w)) (pointsPer L (domains w)) (treeAt L w n j) n r
+  shape-at : (n j : ℕ) (r : Box) → Paths L w n j → Owned L w j r → ShapedIn L w (treeAt L w n j) n r
   shape-at zero j r p o = (refl, record { room = S .pointRoom j; domain = S .splitting j; inside = o .inside; distinct = S .distinct j })
   shape-at (suc n) j r p o =
       let es = entsIn (view L w j) in
@@ -570,7 +560,7 @@ module _ (L : ℕ) (w : List ℕ) (S : Sound L w) where
   tree-stands : 5 ≤ L → (levelsAt w ≡ 0 → ⊥) → Stands L w (some (treeAt L w (levelsAt w - 1) (rootAt w)))
   tree-stands big z =
       printed-pages big (some t)
-      (record { domains = (hd .least, hd .most); pages = (g .least, g .most); numbered = num; shape = subst (λ m. Shaped (domains w) (regionsPer L (domains w)) (pointsPer L (domains w)) t m (whole (domains w))) (omega (arith, lv)) shape })
+      (record { domains = (hd .least, hd .most); pages = (g .least, g .most); numbered = num; shape = subst (λ m. ShapedIn L w t m (whole (domains w))) (omega (arith, lv)) shape })
       (sym (root-at L w n j)) (omega (arith, lv)) count views
     where
       n : ℕ
@@ -595,9 +585,9 @@ module _ (L : ℕ) (w : List ℕ) (S : Sound L w) where
       rc = rw (ne-eqb (levelsAt w) 0 z) (reached-tree L w n j)
 
       num : Numbered (pagesIn L w) (pages t)
-      num = record { inside = λ c i. view-outside L w c (S .used c .1 (rw rc i)); once = λ c. rw (sym rc) (S .once c) }
+      num = record { inside = λ c i. used-number L w c (S .used c .1 (rw rc i)); once = λ c. rw (sym rc) (S .once c) }
 
-      shape : Shaped (domains w) (regionsPer L (domains w)) (pointsPer L (domains w)) t n (whole (domains w))
+      shape : ShapedIn L w t n (whole (domains w))
       shape = shape-at n j (whole (domains w)) (S .paths z) (root-owned big)
 
       views : (c : ℕ) → view L w c ≡ pageAt (some t) c
