@@ -10,23 +10,23 @@ use native.Mathlib.Omega.{arith}
 use lib.Dec.{T, leb, ltb, eqb, le→leb, lt→ltb, T-not, not-T}
 use lib.ListN.{length, take, length-append}
 use borrow.Author.Tests.{lt-ltb, ne-eqb}
-use Rattle.kdb.specs.Lists.{bit, only, tally, every, any, Each, many, same}
+use Rattle.kdb.specs.Lists.{bit, only, tally, every, many, same}
 use Rattle.kdb.specs.Box.{Box, Key, sides, whole, within, inWindow, meets}
-use Rattle.kdb.specs.Tree.{Rec, Tree, leaf, node, Forest, fnil, fcons, State, root, boxes, levels, levelsF, pages, pagesF, records, recordsF, pagesOf, recordsOf}
+use Rattle.kdb.specs.Tree.{Rec, Tree, leaf, node, Forest, fnil, fcons, State, root, boxes, levels, pages, pagesF, records, recordsF, pagesOf, recordsOf}
 use Rattle.kdb.specs.Tiling.{Tiles, holders}
-use Rattle.kdb.specs.Pages.{Ent, Page, blank, points, regions, recsIn, entsIn, isPoints, isRegions, pointsPer, regionsPer}
-use Rattle.kdb.specs.Shape.{PointPage, RegionPage, Shaped, ShapedF, WellFormed}
+use Rattle.kdb.specs.Pages.{points, regions, recsIn, entsIn, isPoints, isRegions, pointsPer, regionsPer}
+use Rattle.kdb.specs.Shape.{Shaped, ShapedF}
 use Rattle.kdb.specs.Pool.{domains, rootAt, levelsAt, pagesIn, numbers, view, ownRegion}
-use Rattle.kdb.specs.Print.{ents, orPage, pageOf, pageOfF, pageAt}
+use Rattle.kdb.specs.Print.{ents}
 use Rattle.kdb.specs.Walk.{Spot, spots, Tour, still, follow, through, readAt, isPage, goodPoints, goodRegions, tour, bounded, listWalk, End, rootless, bad, absent, here, Search, ends, after, spotOf, into, seek, findWalk}
-use Rattle.kdb.proofs.Lists.{and-i, and-l, and-r, cases, bool-eq, is-true, is-false, of-bit, to-bit, no-bit, self, only-append, every-append, every-imp, tally-append, many-append, same-eq, In, in-head, in-left, in-right, every-many, once-length, once-tally}
+use Rattle.kdb.proofs.Lists.{and-i, and-l, and-r, cases, bool-eq, is-false, of-bit, to-bit, no-bit, self, only-append, every-append, every-imp, tally-append, many-append, same-eq, In, in-head, in-left, in-right, every-many, once-length, once-tally}
 use Rattle.kdb.proofs.Box.{window-i, window-e, meets-of, at-meet}
 use Rattle.kdb.proofs.Tiling.{tiles-counted}
 use Rattle.kdb.proofs.Views.{Seen, SeenF, ents-boxes, among}
 use Rattle.kdb.proofs.Stands.{Stands}
 use Rattle.kdb.proofs.Walk.{page-e, list-pages}
 use Rattle.kdb.proofs.Print.{some-levels, stands-seen}
-use Rattle.kdb.proofs.Own.{orBox, ownIn, ownInF, ownOf, own-out, own-outF, own-region}
+use Rattle.kdb.proofs.Own.{orBox, ownIn, ownInF, own-out, own-outF, own-region}
 
 -- the tree's walk of a window: the pages read and the records found
 abbrev mutual
@@ -383,6 +383,10 @@ module _ (k R P : ℕ) (v : Box) (j : ℕ) where
           met-one v (ownIn t b j) (ownInF f j) (among j (pages t) (λ i. inr (own-outF f j (omega arith))) (λ z. inl (own-out t b j z))),
         )
 
+-- the region, if there is one, shares a point with the window
+abbrev pub Shares : Box → Option Box → Type 0
+Shares v z = (r : Box) × (z ≡ some r) × ((p : Key) × T (within r p) × T (inWindow v p))
+
 -- the state's walk and search
 abbrev pub walkedS : State → Box → Tour
 walkedS none v = still
@@ -486,10 +490,6 @@ module _ (L : ℕ) (w : List ℕ) where
       ap (λ t. many j (t .read)) (list-tree v (some t) h)
       ∙ own-reads k (regionsPer L k) (pointsPer L k) v j t (levels t - 1) (whole k) (h .formed .shape) m (h .formed .numbered .once j)
       ∙ ap (λ r. bit (met v r)) (sym (own-region L w (some t) h j))
-
-  -- the region, if there is one, shares a point with the window
-  abbrev pub Shares : Box → Option Box → Type 0
-  Shares v z = (r : Box) × (z ≡ some r) × ((p : Key) × T (within r p) × T (inWindow v p))
 
   -- demand 3: page j is on the list exactly if its own region shares a point with the window
   pub list-reads : (v : Box) (s : State) → Stands L w s → T (meets (whole (domains w)) v) → (j : ℕ) → (1 ≤ many j (listWalk L w v .read)) ↔ Shares v (ownRegion L w j)
