@@ -1,21 +1,21 @@
 -- What list and find answer on a sound pool whose records are, by counts, the records rs.
-use mathlib.Core.Bool.{Bool, true, false, _&&_, not, cond}
+use mathlib.Core.Bool.{Bool, true, false, _&&_, cond}
 use mathlib.Core.List.{List, [], _∷_, _++_, map}
 use mathlib.Core.Option.{none, some}
 use mathlib.Core.Path.{_≡_, refl, sym, ap, ap₂, _∙_, subst}
-use Prim.Native.Nat.{ℕ, zero, suc, _+_, _*_, _<_, _≤_}
+use Prim.Native.Nat.{ℕ, suc, _+_, _*_, _≤_}
 use native.Mathlib.Omega.{arith}
 use lib.Dec.{T, eqb, eqb→eq, eqb-refl, T-not}
 use lib.ListN.{length, take, drop, getD, length-map}
 use Rattle.kdb.specs.Lists.{bit, only, tally, same}
 use Rattle.kdb.specs.Box.{Key, whole, within, inWindow}
-use Rattle.kdb.specs.Tree.{Rec, State, Tree, records, recordsOf}
+use Rattle.kdb.specs.Tree.{Rec, State, records, recordsOf}
 use Rattle.kdb.specs.Pool.{domains, goodLength, goodHeader, Sound}
 use Rattle.kdb.specs.Print.{stateOf}
-use Rattle.kdb.specs.Walk.{Spot, Tour, listWalk, End, rootless, bad, absent, here, Search, ends, findWalk}
-use Rattle.kdb.specs.Calls.{L, Call, find, list, lent, Buffers, Outcome, finite, windowOf, ordered, begins, finding, listing, filled, core, outcome}
+use Rattle.kdb.specs.Walk.{Spot, Tour, listWalk, End, rootless, bad, absent, here, Search, findWalk}
+use Rattle.kdb.specs.Calls.{L, find, list, lent, Buffers, finite, windowOf, ordered, begins, finding, listing, filled, outcome}
 use Rattle.kdb.specs.Demands.{SameRecords, keyed, inside, goodWindow, goodPoint, Lists, Finds}
-use Rattle.kdb.proofs.Lists.{and-l, and-r, and-i, bool, bit-most, length-only, same-refl, In}
+use Rattle.kdb.proofs.Lists.{and-l, and-r, and-i, bool, bit-most, length-only, same-refl}
 use Rattle.kdb.proofs.Stands.{Stands}
 use Rattle.kdb.proofs.Views.{finite-whole}
 use Rattle.kdb.proofs.Pool.{Sound-stands}
@@ -43,7 +43,8 @@ map-loc : (ss : List Spot) → map (λ r. r .loc) (map (λ x. x .rec) ss) ≡ ma
 map-loc [] = refl
 map-loc (x ∷ ss) = ap (λ l. x .rec .loc ∷ l) (map-loc ss)
 
-module _ (w : List ℕ) (sound : Sound L w) (rs : List Rec) (same : SameRecords (recordsOf (stateOf L w)) rs) where
+-- the tests of the arguments are all that a sound pool leaves
+module _ (w : List ℕ) (sound : Sound L w) where
   pub list-begins : (v slots : List ℕ) → T (goodWindow (domains w) v) → T (begins w (list v slots))
   list-begins v slots h =
       let long = eqb (length v) (2 * domains w) in
@@ -56,12 +57,13 @@ module _ (w : List ℕ) (sound : Sound L w) (rs : List Rec) (same : SameRecords 
       let long = eqb (length p) (domains w) in
       and-i (goodLength L w) _ (sound .words) (and-i (goodHeader L w) _ (sound .header) (and-i long _ (and-l long _ h) (and-i (finite p) true (and-r long _ h) tt)))
 
+module _ (w : List ℕ) (sound : Sound L w) (rs : List Rec) (same : SameRecords (recordsOf (stateOf L w)) rs) where
   pub list-answers : (v slots : List ℕ) → T (goodWindow (domains w) v) → Lists w rs v slots
   list-answers v slots h =
       let window = windowOf (domains w) v in
       let st = Sound-stands L w sound (omega arith) in
       let t = listWalk L w window in
-      let e = goes-on w (list v slots) (list-begins v slots h) in
+      let e = goes-on w (list v slots) (list-begins w sound v slots h) in
       let g = listing-good t w slots (list-good L w window (stateOf L w) st) in
       let found : List Rec = map (λ x. x .rec) (t .found) in
       let is : found ≡ only (λ r. inWindow window (r .key)) (recordsOf (stateOf L w)) = list-finds L w window (stateOf L w) st in
@@ -144,7 +146,7 @@ module _ (w : List ℕ) (sound : Sound L w) (rs : List Rec) (same-recs : SameRec
       let k = domains w in
       let long = eqb (length p) k in
       let i : T (within (whole k) p) = finite-whole k p (eqb→eq (length p) k (and-l long _ h)) (and-r long _ h) in
-      go (stateOf L w) (Sound-stands L w sound (omega arith)) same-recs i (goes-on w (find p) (find-begins w sound rs same-recs p h))
+      go (stateOf L w) (Sound-stands L w sound (omega arith)) same-recs i (goes-on w (find p) (find-begins w sound p h))
     where
       go : (s : State) → Stands L w s → SameRecords (recordsOf s) rs → T (within (whole (domains w)) p)
           → outcome w (find p) ≡ finding (findWalk L w p) (lent w (find p)) → Finds w rs p

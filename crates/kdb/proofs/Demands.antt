@@ -1,36 +1,39 @@
 -- Demand 2: after any calls on a sound pool the pool is sound, its records are the live ones, and list and find answer by them; from an
--- accepted format in particular; and the same of any code whose calls keep their promises.
-use mathlib.Core.Bool.{Bool, true, false, _&&_, not}
+-- accepted format in particular; and the same of any code whose calls keep their promises. Demand 3: what a walk reads.
+use mathlib.Core.Bool.{Bool, true, false, _&&_, not, cond}
 use mathlib.Core.List.{List, [], _∷_, _++_, map}
 use mathlib.Core.Option.{Option, none, some}
-use mathlib.Core.Path.{_≡_, refl, sym, ap, ap₂, _∙_, subst}
-use Prim.Native.Nat.{ℕ, zero, suc, _+_, _*_, _<_, _≤_}
+use mathlib.Core.Path.{_≡_, refl, sym, ap, _∙_, subst, ap₂}
+use Prim.Native.Nat.{ℕ, zero, suc, _+_, _≤_, max, _-_, _<_, _*_}
 use native.Mathlib.Omega.{arith}
-use lib.Dec.{T, eqb, eqb→eq, T-not}
-use lib.ListN.{length, getD}
-use Rattle.kdb.specs.Lists.{bit, tally, same}
-use Rattle.kdb.specs.Box.{Key, whole, within}
+use lib.Dec.{T, eqb, eqb→eq, T-not, leb, ltb, leb→le, le→leb, ltb→lt, lt→ltb}
+use lib.ListN.{length, take, drop, length-take, length-drop, length-append, getD}
+use mathlib.Core.Logic.{_↔_}
+use lib.Seq.{take-at, drop-at}
+use borrow.Author.Tests.{eq-eqb}
+use Rattle.kdb.specs.Lists.{bit, tally, same, every, many}
+use Rattle.kdb.specs.Box.{Key, whole, within, ∞, sides, meets}
 use Rattle.kdb.specs.Tree.{Rec, State, Tree, records, recordsOf}
-use Rattle.kdb.specs.Steps.{placed, removed}
-use Rattle.kdb.specs.Pages.{regionsPer, pointsPer}
+use Rattle.kdb.specs.Steps.{removed}
 use Rattle.kdb.specs.Shape.{WellFormed}
-use Rattle.kdb.specs.Pool.{domains, pagesIn, goodLength, goodHeader, Sound}
+use Rattle.kdb.specs.Pool.{domains, pagesIn, goodLength, goodHeader, Sound, levelsAt, ownRegion, numbers}
 use Rattle.kdb.specs.Print.{printed, stateOf, sound}
-use Rattle.kdb.specs.Walk.{Spot, End, rootless, bad, absent, here, findWalk}
-use Rattle.kdb.specs.Calls.{L, Call, format, check, place, remove, find, list, Outcome, lent, tests, begins, core, goodDomains, finite, present, placing, removing, stepped, formatted, outcome}
-use Rattle.kdb.specs.History.{Answer, answerOf, run, answers, change, changed, live, Keeps}
-use Rattle.kdb.specs.Demands.{SameRecords, keyed, liveAfter, Demand2, ByTheSteps}
-use Rattle.kdb.proofs.Lists.{and-l, and-r, and-i, bool, cases, tally-append, to-bit, no-bit, same-refl, In}
+use Rattle.kdb.specs.Walk.{Spot, End, rootless, bad, absent, here, findWalk, listWalk}
+use Rattle.kdb.specs.Calls.{L, Call, format, check, place, remove, find, list, Outcome, goodDomains, finite, present, placing, removing, stepped, outcome, windowOf, ordered, walkOf, begins}
+use Rattle.kdb.specs.History.{answerOf, run, answers, change, changed, live, Keeps}
+use Rattle.kdb.specs.Demands.{SameRecords, keyed, liveAfter, Demand2, ByTheSteps, goodWindow, goodPoint, Shares, met, Demand3, Bounded}
+use Rattle.kdb.proofs.Walk.{walk-bound, list-returns, find-returns}
+use Rattle.kdb.proofs.Lists.{and-l, and-r, and-i, bool, tally-append, to-bit, no-bit, same-refl, In, every-append, every-take, is-true, of-true}
 use Rattle.kdb.proofs.Stands.{Stands}
 use Rattle.kdb.proofs.Views.{finite-whole}
 use Rattle.kdb.proofs.Print.{read-state}
-use Rattle.kdb.proofs.Pool.{print-sound, sound-iff, Sound-stands, length-iff, header-iff}
+use Rattle.kdb.proofs.Pool.{print-sound, sound-iff, Sound-stands}
 use Rattle.kdb.proofs.Format.{formatted-printed, none-formed}
 use Rattle.kdb.proofs.Grow.{roomy-32, placed-formed, removed-formed, key-once}
-use Rattle.kdb.proofs.Reading.{Answers, find-rootless, find-answers}
+use Rattle.kdb.proofs.Reading.{Answers, find-rootless, find-answers, list-reads, list-once, list-count, list-point, one-point, find-reads}
 use Rattle.kdb.proofs.Calls.{done, refusal-keeps, check-still, find-still, list-still}
 use Rattle.kdb.proofs.History.{without-tally, changed-same, keeps-run}
-use Rattle.kdb.proofs.Answers.{list-answers, find-finds}
+use Rattle.kdb.proofs.Answers.{list-answers, find-finds, list-begins}
 
 big : 5 ≤ L
 big = omega arith
@@ -255,3 +258,85 @@ by-the-steps w =
           let st = Sound-stands L w (h .0 .well) big in
           (h .2, ap (stateOf L) (h .2) ∙ read-state L (domains w) (pagesIn L w) (removed (stateOf L w) p) big (removed-formed L (domains w) (pagesIn L w) (stateOf L w) p (st .formed) .formed));
     }
+
+-- an accepted window meets the whole space
+window-whole : (k : ℕ) (ls us : List ℕ) → length ls ≡ k → length us ≡ k → T (finite ls) → T (ordered (sides ls us)) → T (meets (whole k) (sides ls us))
+window-whole zero [] us h j f o = tt
+window-whole zero (l ∷ ls) us h j f o = absurd (omega arith)
+window-whole (suc k) [] us h j f o = absurd (omega arith)
+window-whole (suc k) (l ∷ ls) [] h j f o = absurd (omega arith)
+window-whole (suc k) (l ∷ ls) (u ∷ us) h j f o =
+    let m = max 0 l in
+    let x : l < ∞ = ltb→lt l ∞ (and-l (ltb l ∞) _ f) in
+    let y : l ≤ u = leb→le l u (and-l (leb l u) _ o) in
+    and-i (ltb m ∞ && leb m u) _ (and-i (ltb m ∞) (leb m u) (lt→ltb m ∞ (omega arith)) (le→leb m u (omega arith)))
+    (window-whole k ls us (omega arith) (omega arith) (and-r (ltb l ∞) _ f) (and-r (leb l u) _ o))
+
+finite-append : (a b : List ℕ) → T (finite a) → T (finite b) → T (finite (a ++ b))
+finite-append a b = every-append (λ x. ltb x ∞) a b
+
+module _ (k : ℕ) (v : List ℕ) (h : T (goodWindow k v)) where
+  good-long : length v ≡ 2 * k
+  good-long = eqb→eq (length v) (2 * k) (and-l (eqb (length v) (2 * k)) _ (and-l (eqb (length v) (2 * k) && finite v) _ h))
+
+  good-meets : T (meets (whole k) (windowOf k v))
+  good-meets =
+      window-whole k (take k v) (drop k v) (length-take k v ∙ omega (arith, good-long)) (length-drop k v ∙ omega (arith, good-long))
+      (every-take (λ x. ltb x ∞) k v (and-r (eqb (length v) (2 * k)) _ (and-l (eqb (length v) (2 * k) && finite v) _ h)))
+      (and-r (eqb (length v) (2 * k) && finite v) _ h)
+
+-- the window of one point
+point-window : (k : ℕ) (p : List ℕ) → length p ≡ k → windowOf k (p ++ p) ≡ sides p p
+point-window k p e = ap₂ sides (take-at p p k e) (drop-at p p k e)
+
+ordered-point : (p : List ℕ) → T (ordered (sides p p))
+ordered-point [] = tt
+ordered-point (x ∷ p) = and-i (leb x x) _ (le→leb x x (omega arith)) (ordered-point p)
+
+point-good : (k : ℕ) (p : List ℕ) → T (goodPoint k p) → T (goodWindow k (p ++ p))
+point-good k p h =
+    let e = eqb→eq (length p) k (and-l (eqb (length p) k) _ h) in
+    let f = and-r (eqb (length p) k) _ h in
+    let long : length (p ++ p) ≡ 2 * k = length-append p p ∙ omega arith in
+    and-i (eqb (length (p ++ p)) (2 * k) && finite (p ++ p)) _
+    (and-i (eqb (length (p ++ p)) (2 * k)) _ (of-true _ (eq-eqb (length (p ++ p)) (2 * k) long)) (finite-append p p f f))
+    (subst (λ v. T (ordered v)) (sym (point-window k p e)) (ordered-point p))
+
+-- Demand 3, on a sound pool
+module _ (w : List ℕ) (s : Sound L w) where
+  st : Stands L w (stateOf L w)
+  st = Sound-stands L w s big
+
+  walked-list : (v slots : List ℕ) → T (goodWindow (domains w) v) → walkOf w (list v slots) ≡ listWalk L w (windowOf (domains w) v) .read
+  walked-list v slots h = ap (λ b. cond b (listWalk L w (windowOf (domains w) v) .read) []) (is-true (begins w (list v slots)) (list-begins w s v slots h))
+
+  returned : (v slots : List ℕ) → T (goodWindow (domains w) v) → getD (outcome w (list v slots) .values) 1 0 ≡ length (walkOf w (list v slots))
+  returned v slots h = ap (λ l. getD l 1 0) (list-returns w v slots (list-answers w s (recordsOf (stateOf L w)) (λ g. refl) v slots h .done) .1)
+
+  pub demand3 : Demand3 w
+  demand3 =
+      record {
+        reads = λ v slots h j.
+            subst (λ l. (1 ≤ many j l) ↔ Shares (windowOf (domains w) v) (ownRegion L w j)) (sym (walked-list v slots h))
+            (list-reads L w (windowOf (domains w) v) (stateOf L w) st (good-meets (domains w) v h) j);
+        once = λ v slots h j. subst (λ l. many j l ≤ 1) (sym (walked-list v slots h)) (list-once L w (windowOf (domains w) v) (stateOf L w) st j);
+        count = λ v slots h.
+            returned v slots h ∙ (ap length (walked-list v slots h) ∙ list-count L w (windowOf (domains w) v) (stateOf L w) st (good-meets (domains w) v h));
+        point = λ p slots h.
+            let k = domains w in
+            let e = eqb→eq (length p) k (and-l (eqb (length p) k) _ h) in
+            returned (p ++ p) slots (point-good k p h) ∙ (ap length (walked-list (p ++ p) slots (point-good k p h))
+            ∙ (ap (λ v. length (listWalk L w v .read)) (point-window k p e)
+            ∙ list-point L w (sides p p) p (stateOf L w) st (one-point p) (finite-whole k p e (and-r (eqb (length p) k) _ h))));
+        find = λ p z.
+            let d = done w (find p) z in
+            let t3 = and-r (goodHeader L w) _ (and-r (goodLength L w) _ (d .0)) in
+            let e = eqb→eq (length p) (domains w) (and-l (eqb (length p) (domains w)) _ t3) in
+            let f = and-l (finite p) _ (and-r (eqb (length p) (domains w)) _ t3) in
+            ap (λ l. getD l 1 0) (find-returns w p z .2) ∙ (ap (λ b. length (cond b (findWalk L w p .read) [])) (is-true (begins w (find p)) (d .0))
+            ∙ find-reads L w p (stateOf L w) st (finite-whole (domains w) p e f));
+      }
+
+-- Demand 3, on any words
+pub bounded : (w : List ℕ) → Bounded w
+bounded w = walk-bound w

@@ -374,6 +374,22 @@ pub tally-map {ℓ κ} : {A : Type ℓ} {B : Type κ} (g : B → Bool) (f : A �
 tally-map g f [] = refl
 tally-map g f (a ∷ l) = ap (λ n. bit (g (f a)) + n) (tally-map g f l)
 
+-- a number of the n from a on, and what is counted in lists joined
+pub many-up : (n a i : ℕ) → a ≤ i → i < a + n → 1 ≤ many i (upFrom n a)
+many-up zero a i h g = absurd (omega arith)
+many-up (suc n) a i h g =
+    bool (eqb i a) (λ t. omega (arith, to-bit (eqb i a) t))
+    (λ t. let ne : i ≡ a → ⊥ = λ e. T-not (eqb i a) t (of-true (eqb i a) (eq-eqb i a e)) in
+    omega (arith, many-up n (suc a) i (omega arith) (omega arith)))
+
+pub tally-gather {ℓ} : {A : Type ℓ} (h : A → Bool) (g : ℕ → List A) (l : List ℕ) (i : ℕ) → 1 ≤ many i l → 1 ≤ tally h (g i) → 1 ≤ tally h (gather g l)
+tally-gather h g [] i k m = absurd (omega arith)
+tally-gather h g (a ∷ l) i k m =
+    let e = tally-append h (g a) (gather g l) in
+    bool (eqb i a)
+    (λ t. let q : tally h (g i) ≡ tally h (g a) = ap (λ j. tally h (g j)) (eqb→eq i a t) in omega arith)
+    (λ t. omega (arith, tally-gather h g l i (omega (arith, no-bit (eqb i a) (T-not (eqb i a) t))) m))
+
 -- parts of lists, and the numbers on them
 module _ {ℓ} {A : Type ℓ} where
   pub every-take : (f : A → Bool) (n : ℕ) (l : List A) → T (every f l) → T (every f (take n l))
@@ -386,10 +402,6 @@ pub every-many : (f : ℕ → Bool) (l : List ℕ) → T (every f l) → (c : �
 every-many f [] t c h = absurd (omega arith)
 every-many f (a ∷ l) t c h =
     bool (eqb c a) (λ e. rw (eqb→eq c a e) (and-l (f a) _ t)) (λ e. every-many f l (and-r (f a) _ t) c (omega (arith, ap bit (is-false (eqb c a) e))))
-
-pub pos : (m : ℕ) → T (not (eqb m 0)) → 1 ≤ m
-pos zero h = absurd h
-pos (suc m) h = omega arith
 
 -- beginnings of lists
 module _ {ℓ} {A : Type ℓ} where
@@ -441,22 +453,6 @@ module _ {ℓ} {A : Type ℓ} where
 
   pub every-imp : (f g : A → Bool) → ((a : A) → T (f a) → T (g a)) → (l : List A) → T (every f l) → T (every g l)
   every-imp f g h l t = in-every g l (λ a m. h a (every-in f a l t m))
-
--- a number of the n from a on, and what is counted in lists joined
-pub many-up : (n a i : ℕ) → a ≤ i → i < a + n → 1 ≤ many i (upFrom n a)
-many-up zero a i h g = absurd (omega arith)
-many-up (suc n) a i h g =
-    bool (eqb i a) (λ t. omega (arith, to-bit (eqb i a) t))
-    (λ t. let ne : i ≡ a → ⊥ = λ e. T-not (eqb i a) t (of-true (eqb i a) (eq-eqb i a e)) in
-    omega (arith, many-up n (suc a) i (omega arith) (omega arith)))
-
-pub tally-gather {ℓ} : {A : Type ℓ} (h : A → Bool) (g : ℕ → List A) (l : List ℕ) (i : ℕ) → 1 ≤ many i l → 1 ≤ tally h (g i) → 1 ≤ tally h (gather g l)
-tally-gather h g [] i k m = absurd (omega arith)
-tally-gather h g (a ∷ l) i k m =
-    let e = tally-append h (g a) (gather g l) in
-    bool (eqb i a)
-    (λ t. let q : tally h (g i) ≡ tally h (g a) = ap (λ j. tally h (g j)) (eqb→eq i a t) in omega arith)
-    (λ t. omega (arith, tally-gather h g l i (omega (arith, no-bit (eqb i a) (T-not (eqb i a) t))) m))
 
 -- flags
 pub and-t : (a b : Bool) → a && b ≡ true → (a ≡ true) × (b ≡ true)

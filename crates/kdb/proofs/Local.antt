@@ -9,7 +9,7 @@ use lib.Dec.{T, leb, ltb, eqb, leb→le, nleb→lt, ltb→lt, nltb→le}
 use lib.ListN.{length, take, drop, getD, length-take, length-append}
 use lib.Seq.{take-all, take-append-le, getD-take, getD-drop}
 use borrow.Author.Tests.{le-ltb}
-use Rattle.kdb.specs.Lists.{bit, only, every, many}
+use Rattle.kdb.specs.Lists.{only, every, many}
 use Rattle.kdb.specs.Box.{Box, Key, within, meets, inWindow}
 use Rattle.kdb.specs.Pages.{Ent, Page, blank, recsIn, entsIn, isPoints, isRegions, pointsPer, regionsPer, readPage, page}
 use Rattle.kdb.specs.Pool.{domains, rootAt, levelsAt, pagesIn, view, goodLength, goodHeader}

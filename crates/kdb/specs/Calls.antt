@@ -4,11 +4,11 @@ use mathlib.Core.Bool.{Bool, true, false, _&&_, not, cond}
 use mathlib.Core.List.{List, [], _∷_, _++_, map}
 use mathlib.Core.Option.{Option, none, some}
 use mathlib.Core.Path.{_≡_}
-use Prim.Native.Nat.{ℕ, _+_, _-_, _*_}
+use Prim.Native.Nat.{ℕ, _-_, _*_}
 use lib.Dec.{leb, ltb, eqb}
 use lib.ListN.{length, take, drop, replicate}
 use Rattle.kdb.specs.Lists.{every}
-use Rattle.kdb.specs.Box.{∞, Box, Key, sides}
+use Rattle.kdb.specs.Box.{∞, Box, sides}
 use Rattle.kdb.specs.Tree.{Rec, State}
 use Rattle.kdb.specs.Steps.{placed, removed}
 use Rattle.kdb.specs.Pages.{regionsPer, pointsPer}

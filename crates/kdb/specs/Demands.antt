@@ -1,7 +1,7 @@
 -- Demands 2 and 3 as statements, each with a field for each thing it says; `Demands` in proofs/ proves them. Demand 1 is `outcome` in
 -- Calls.antt: a function of every input, with the refusals as a table.
-use mathlib.Core.Bool.{Bool, true, false, _&&_}
-use mathlib.Core.List.{List, [], _∷_, _++_, map}
+use mathlib.Core.Bool.{Bool, false, _&&_}
+use mathlib.Core.List.{List, _++_, map}
 use mathlib.Core.Logic.{_↔_}
 use mathlib.Core.Option.{Option, none, some}
 use mathlib.Core.Path.{_≡_}
@@ -9,7 +9,7 @@ use Prim.Native.Nat.{ℕ, _*_, _-_, _≤_}
 use lib.Dec.{T, eqb}
 use lib.ListN.{length, take, drop, getD}
 use Rattle.kdb.specs.Lists.{only, tally, many, same}
-use Rattle.kdb.specs.Box.{Box, Key, within, inWindow, meets, sides}
+use Rattle.kdb.specs.Box.{Box, Key, within, inWindow, meets}
 use Rattle.kdb.specs.Tree.{Rec, State, recordsOf}
 use Rattle.kdb.specs.Steps.{removed}
 use Rattle.kdb.specs.Pool.{domains, levelsAt, pagesIn, numbers, Sound, ownRegion}
@@ -70,19 +70,22 @@ pub record ByTheSteps (w : List ℕ) : Type 0 where
   pub removes : (p : List ℕ) → outcome w (remove p) .number ≡ 0
       → (outcome w (remove p) .after .pool ≡ printed L (domains w) (pagesIn L w) (removed (stateOf L w) p)) × (stateOf L (outcome w (remove p) .after .pool) ≡ removed (stateOf L w) p)
 
--- page j's own region meets the window
-abbrev pub ownMeets : Option Box → Box → Bool
-ownMeets none v = false
-ownMeets (some r) v = meets r v
+-- the region, where there is one, shares a point with the window: by a point, and as a test
+abbrev pub Shares : Box → Option Box → Type 0
+Shares v own = (r : Box) × (own ≡ some r) × ((p : Key) × T (within r p) × T (inWindow v p))
+
+abbrev pub met : Box → Option Box → Bool
+met v none = false
+met v (some r) = meets r v
 
 -- Demand 3, on a sound pool: the walk reads exactly the pages whose own region shares a point with the window, each once, and the count
 -- returned is their number; a window of one point, and a find that succeeds, read one page a level
 pub record Demand3 (w : List ℕ) : Type 0 where
   pub reads : (v slots : List ℕ) → T (goodWindow (domains w) v) → (j : ℕ)
-      → (1 ≤ many j (walkOf w (list v slots))) ↔ ((r : Box) × (ownRegion L w j ≡ some r) × ((p : Key) × T (within r p) × T (inWindow (windowOf (domains w) v) p)))
+      → (1 ≤ many j (walkOf w (list v slots))) ↔ Shares (windowOf (domains w) v) (ownRegion L w j)
   pub once : (v slots : List ℕ) → T (goodWindow (domains w) v) → (j : ℕ) → many j (walkOf w (list v slots)) ≤ 1
   pub count : (v slots : List ℕ) → T (goodWindow (domains w) v)
-      → getD (outcome w (list v slots) .values) 1 0 ≡ tally (λ j. ownMeets (ownRegion L w j) (windowOf (domains w) v)) (numbers L w)
+      → getD (outcome w (list v slots) .values) 1 0 ≡ tally (λ j. met (windowOf (domains w) v) (ownRegion L w j)) (numbers L w)
   pub point : (p slots : List ℕ) → T (goodPoint (domains w) p) → getD (outcome w (list (p ++ p) slots) .values) 1 0 ≡ levelsAt w
   pub find : (p : List ℕ) → outcome w (find p) .number ≡ 0 → getD (outcome w (find p) .values) 1 0 ≡ levelsAt w
 

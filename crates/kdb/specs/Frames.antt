@@ -1,11 +1,11 @@
 -- The frame program: document 01, "The frame program". A line's bytes give the next pool and the answer's bytes; a whole input gives the
 -- whole output. The pool has no words before the first format.
-use mathlib.Core.Bool.{Bool, true, false, _&&_, _||_, not, cond}
+use mathlib.Core.Bool.{Bool, _&&_, cond}
 use mathlib.Core.List.{List, [], _∷_, _++_}
 use mathlib.Core.Option.{Option, none, some}
 use Prim.Native.Nat.{ℕ, zero, suc, _+_, _-_, _*_, _/_, _%_}
 use lib.Dec.{leb, ltb, eqb}
-use lib.ListN.{length, take, drop, replicate, getD}
+use lib.ListN.{length, take, replicate, getD}
 use Rattle.kdb.specs.Lists.{gather, andThen}
 use Rattle.kdb.specs.Calls.{L, Call, format, place, remove, find, list, Outcome, outcome}
 

@@ -1,6 +1,6 @@
 -- A pool's words: its header, its pages, and soundness, document 01's paragraph "A pool is sound when ..", with a field for each sentence,
 -- said over the words and the pages.
-use mathlib.Core.Bool.{Bool, true, false, _&&_, cond}
+use mathlib.Core.Bool.{Bool, _&&_, cond}
 use mathlib.Core.List.{List, [], _∷_, map}
 use mathlib.Core.Option.{Option, none, some}
 use mathlib.Core.Path.{_≡_}

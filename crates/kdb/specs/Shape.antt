@@ -8,7 +8,7 @@ use Prim.Native.Nat.{ℕ, zero, suc, _-_, _≤_, _<_}
 use lib.Dec.{T, leb, ltb, eqb}
 use lib.ListN.{length}
 use Rattle.kdb.specs.Lists.{tally, every, many, same}
-use Rattle.kdb.specs.Box.{Box, Key, whole, within}
+use Rattle.kdb.specs.Box.{Box, whole, within}
 use Rattle.kdb.specs.Tiling.{Tiles, tiles}
 use Rattle.kdb.specs.Tree.{Rec, Tree, leaf, node, Forest, fnil, fcons, State, boxes, levels, pagesOf}
 use Rattle.kdb.specs.Pages.{regionsPer, pointsPer}

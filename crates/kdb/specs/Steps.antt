@@ -1,10 +1,10 @@
 -- Placing and removing on the tree: Robinson's I1 to I6 and S1 to S3 with document 01's choices. `free` is always the list of the free
 -- page numbers, lowest first; claiming a page takes its head, and a step for which none is left fails.
-use mathlib.Core.Bool.{Bool, true, false, cond}
+use mathlib.Core.Bool.{true, false}
 use mathlib.Core.List.{List, [], _∷_, _++_}
 use mathlib.Core.Option.{Option, none, some}
-use Prim.Native.Nat.{ℕ, zero, suc, _+_, _-_, _%_}
-use lib.Dec.{leb, ltb, eqb}
+use Prim.Native.Nat.{ℕ, suc, _+_, _-_, _%_}
+use lib.Dec.{leb, eqb}
 use lib.ListN.{length}
 use Rattle.kdb.specs.Lists.{only, many, upFrom, same, andThen}
 use Rattle.kdb.specs.Box.{Box, Key, whole, within, leftPart, rightPart}
