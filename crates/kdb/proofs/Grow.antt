@@ -1,5 +1,5 @@
--- Placing a record in total form: `grown` is what a page becomes and how many pages that claims. `grow-ok` shows that `grow` gives it where
--- the free pages suffice, that every page stays well formed, that the record and nothing else is added, and that the way is fair.
+-- Placing and removing. `grown` is what a page becomes and how many pages that claims; `grow-ok` shows that `grow` gives it where the free
+-- pages suffice. So `placed-formed`, `placed-none-iff`, `formed-fair`, `removed-formed` and `key-once` hold of every well-formed state.
 use mathlib.Core.Bool.{Bool, true, false, _&&_, not}
 use mathlib.Core.List.{List, [], _∷_, _++_}
 use mathlib.Core.Logic.{_↔_}
