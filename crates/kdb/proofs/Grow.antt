@@ -1,29 +1,29 @@
--- Placing a record in total form: `grown` is what a page becomes and how many pages that claims. `grow-ok` shows that `grow` gives it where
--- the free pages suffice, that every page stays well formed, that the record and nothing else is added, and that the way is fair.
-use mathlib.Core.Bool.{Bool, true, false, _&&_, not, cond}
+-- Placing and removing. `grown` is what a page becomes and how many pages that claims; `grow-ok` shows that `grow` gives it where the free
+-- pages suffice. So `placed-formed`, `placed-none-iff`, `formed-fair`, `removed-formed` and `key-once` hold of every well-formed state.
+use mathlib.Core.Bool.{Bool, true, false, _&&_, not}
 use mathlib.Core.List.{List, [], _∷_, _++_}
 use mathlib.Core.Logic.{_↔_}
-use mathlib.Core.Option.{Option, none, some}
-use mathlib.Core.Path.{_≡_, refl, sym, ap, ap₂, _∙_, subst}
-use Prim.Native.Nat.{ℕ, zero, suc, _+_, _-_, _<_, _≤_, _%_}
+use mathlib.Core.Option.{none, some}
+use mathlib.Core.Path.{_≡_, refl, sym, ap, _∙_, subst}
+use Prim.Native.Nat.{ℕ, zero, suc, _+_, _-_, _<_, _≤_}
 use native.Mathlib.Omega.{arith}
-use native.Mathlib.Nat.{mod-lt, zero-add}
-use lib.Dec.{T, leb, ltb, eqb, leb→le, le→leb, ltb→lt, lt→ltb, nltb→le, nleb→lt, T-not, not-T, eqb→eq, eqb-refl, lit≤}
+use native.Mathlib.Nat.{mod-lt}
+use lib.Dec.{T, leb, eqb, leb→le, le→leb, nleb→lt, T-not, not-T, eqb→eq, lit≤}
 use lib.ListN.{length, take, drop, getD, length-append, length-drop, drop-of-length-le}
 use lib.Seq.{take-add, take-suc, drop-drop, drop-cons}
 use Rattle.kdb.specs.Lists.{bit, only, tally, every, many, same, upFrom}
 use Rattle.kdb.specs.Box.{Box, Key, whole, within, solid, leftPart, rightPart}
 use Rattle.kdb.specs.Tree.{Rec, Tree, leaf, node, Forest, fnil, fcons, State, boxes, levels, pages, pagesF, records, recordsF, pagesOf, recordsOf}
 use Rattle.kdb.specs.Cut.{Cut, nowhere, cut, cutPoints, cutRegions}
-use Rattle.kdb.specs.Tiling.{Tiles, Counted, holders}
+use Rattle.kdb.specs.Tiling.{Tiles, holders}
 use Rattle.kdb.specs.Pages.{regionsPer, pointsPer}
-use Rattle.kdb.specs.Shape.{differ, PointPage, RegionPage, Shaped, ShapedF, ShapedS, Numbered, WellFormed}
-use Rattle.kdb.specs.Steps.{freeOf, afterChosen, Two, split, Up, failed, fits, parts, UpF, failedF, kept, wider, size, joinF, parted, enter, behind, chosen, settleLeaf, settleNode, grow, growF, newRoot, topped, first, placed, without, remove, removeF, removed}
-use Rattle.kdb.proofs.Lists.{and-l, and-r, and-i, bool, by-case, is-true, is-false, to-bit, no-bit, bit-most, found, tally-append, every-append, same-eq, same-refl, In, in-head, in-tail, every-in, tally-only, tally-parts, tally-take, many-only, upFrom-in, upFrom-once}
+use Rattle.kdb.specs.Shape.{differ, RegionPage, Shaped, ShapedF, ShapedS, Numbered, WellFormed}
+use Rattle.kdb.specs.Steps.{freeOf, afterChosen, split, Up, failed, fits, parts, UpF, failedF, kept, wider, size, joinF, parted, enter, behind, chosen, settleNode, grow, growF, newRoot, topped, first, placed, without, remove, removeF, removed}
+use Rattle.kdb.proofs.Lists.{and-l, and-r, and-i, bool, by-case, is-true, is-false, to-bit, no-bit, bit-eq, bit-most, found, tally-append, every-append, same-eq, same-refl, In, in-head, in-tail, every-in, tally-only, tally-parts, tally-take, many-only, upFrom-in, upFrom-once}
 use Rattle.kdb.proofs.Tiling
 use Rattle.kdb.proofs.Tiling.{tiles-counted, counted-tiles, Inside, on, part, part-solid, two-hold, two-tile}
 use Rattle.kdb.proofs.Cut.{within-length, PointsCut, points-cut, points-rooms, points-inside, RegionsCut, regions-cut, regions-rooms, entry-length}
-use Rattle.kdb.proofs.Split.{need, half, halfF, halves, split-some, split-none, half-records, half-pages, half-boxes, point-half, region-half, shapedF-half, shaped-levels}
+use Rattle.kdb.proofs.Split.{need, half, halfF, split-some, split-none, half-records, half-pages, half-boxes, point-half, region-half, shapedF-half, shaped-levels}
 use Rattle.kdb.proofs.Fair.{FairPoints, FairRegions, FairWider, Fair, FairF}
 
 -- what a page becomes, with the pages claimed: one page; two pages, cut along a key of a domain
@@ -136,14 +136,17 @@ pub record Fit (k R P : ℕ) (t : Tree) (q : Rec) (free : List ℕ) (n : ℕ) (b
   pub held : (g : Rec → Bool) → recordsIn g o ≡ tally g (records t) + bit (g q)
   pub paged : (g : ℕ → Bool) → used o ≤ length free → pagesIn g o ≡ tally g (pages t) + tally g (take (used o) free)
 
--- the same of entries, which stay a tiling of what they tiled
-pub record FitF (k R P : ℕ) (f : Forest) (q : Rec) (free : List ℕ) (n : ℕ) (o : OutF) : Type 0 where
-  pub shaped : ShapedF k R P (forest o) n
-  pub hold : (p : Key) → holders (boxes (forest o)) p ≡ holders (boxes f) p
-  pub firm : T (every solid (boxes f)) → T (every solid (boxes (forest o)))
-  pub wide : length (boxes (forest o)) ≡ length (boxes f) + extra o
-  pub held : (g : Rec → Bool) → tally g (recordsF (forest o)) ≡ tally g (recordsF f) + bit (g q)
-  pub paged : (g : ℕ → Bool) → usedF o ≤ length free → tally g (pagesF (forest o)) ≡ tally g (pagesF f) + tally g (take (usedF o) free)
+-- the same of entries f that have become g, u pages claimed, a number of entries more: they tile what they tiled
+pub record Stead (k R P : ℕ) (f : Forest) (q : Rec) (free : List ℕ) (n : ℕ) (g : Forest) (u more : ℕ) : Type 0 where
+  pub shaped : ShapedF k R P g n
+  pub hold : (p : Key) → holders (boxes g) p ≡ holders (boxes f) p
+  pub firm : T (every solid (boxes f)) → T (every solid (boxes g))
+  pub wide : length (boxes g) ≡ length (boxes f) + more
+  pub held : (t : Rec → Bool) → tally t (recordsF g) ≡ tally t (recordsF f) + bit (t q)
+  pub paged : (t : ℕ → Bool) → u ≤ length free → tally t (pagesF g) ≡ tally t (pagesF f) + tally t (take u free)
+
+abbrev pub FitF : ℕ → ℕ → ℕ → Forest → Rec → List ℕ → ℕ → OutF → Type 0
+FitF k R P f q free n o = Stead k R P f q free n (forest o) (usedF o) (extra o)
 
 pub record Grown (k R P : ℕ) (t : Tree) (q : Rec) (free : List ℕ) (n : ℕ) (b : Box) : Type 0 where
   pub fair : Fair k R P t q free
@@ -407,25 +410,20 @@ module _ (k R P : ℕ) where
         paged = λ g l. simp tally-append (omega (arith, w .paged g l, join-pages g f c, tally-append g (pages r) []));
       }
 
+  stead-behind : (b : Box) (t : Tree) (f g : Forest) (q : Rec) (free : List ℕ) (n u more : ℕ) → Shaped k R P t n b → Stead k R P f q free n g u more → Stead k R P (fcons b t f) q free n (fcons b t g) u more
+  stead-behind b t f g q free n u more h w =
+      record {
+        shaped = (h, w .shaped);
+        hold = λ p. omega (arith, w .hold p);
+        firm = λ s. and-i (solid b) _ (and-l (solid b) _ s) (w .firm (and-r (solid b) _ s));
+        wide = omega (arith, w .wide);
+        held = λ a. simp tally-append (omega (arith, w .held a));
+        paged = λ a l. simp tally-append (omega (arith, w .paged a l));
+      }
+
   passed-fit : (b : Box) (t : Tree) (f : Forest) (q : Rec) (free : List ℕ) (n : ℕ) (o : OutF) → Shaped k R P t n b → FitF k R P f q free n o → FitF k R P (fcons b t f) q free n (passed b t o)
-  passed-fit b t f q free n (asMany g u) h w =
-      record {
-        shaped = (h, w .shaped);
-        hold = λ p. omega (arith, w .hold p);
-        firm = λ s. and-i (solid b) _ (and-l (solid b) _ s) (w .firm (and-r (solid b) _ s));
-        wide = omega (arith, w .wide);
-        held = λ a. simp tally-append (omega (arith, w .held a));
-        paged = λ a l. simp tally-append (omega (arith, w .paged a l));
-      }
-  passed-fit b t f q free n (oneMore g u) h w =
-      record {
-        shaped = (h, w .shaped);
-        hold = λ p. omega (arith, w .hold p);
-        firm = λ s. and-i (solid b) _ (and-l (solid b) _ s) (w .firm (and-r (solid b) _ s));
-        wide = omega (arith, w .wide);
-        held = λ a. simp tally-append (omega (arith, w .held a));
-        paged = λ a l. simp tally-append (omega (arith, w .paged a l));
-      }
+  passed-fit b t f q free n (asMany g u) h w = stead-behind b t f g q free n u 0 h w
+  passed-fit b t f q free n (oneMore g u) h w = stead-behind b t f g q free n u 1 h w
 
   entry-ok : (b : Box) (t : Tree) (f : Forest) (q : Rec) (free : List ℕ) (n : ℕ) → Shaped k R P t n b → ShapedF k R P f n
       → (T (within b (q .key)) → Grown k R P t q free n b) → (T (not (within b (q .key))) → GrownF k R P f q free n) → GrownF k R P (fcons b t f) q free n
@@ -810,19 +808,15 @@ module _ (k R P : ℕ) (p : Key) where
 -- two records with one key that stands once pass the same tests
 gone-is : (p : Key) (rs rs′ : List Rec) (r : Rec) (g : Rec → Bool) → tally (λ q. same p (q .key)) rs ≤ 1 → In r rs → r .key ≡ p → (x : Gone p rs rs′) → bit (g r) ≡ bit (g (x .rec))
 gone-is p rs rs′ r g l m e x =
-    let yes′ : Rec → Bool = λ q. same p (q .key) && g q in
-    let no′ : Rec → Bool = λ q. same p (q .key) && not (g q) in
+    let passing : Rec → Bool = λ q. same p (q .key) && g q in
+    let failing : Rec → Bool = λ q. same p (q .key) && not (g q) in
     let kr : T (same p (r .key)) = subst (λ q. T (same p q)) (sym e) (same-refl p) in
-    let both : tally yes′ rs + tally no′ rs ≤ 1 = omega (arith, tally-parts (λ q. same p (q .key)) g rs) in
-    bool-eq-bit (g r) (g (x .rec))
-    (λ t n. omega (arith, both, m .counted yes′ (and-i (same p (r .key)) _ kr t), x .counts no′, to-bit (no′ (x .rec)) (and-i (same p (x .rec .key)) _ (x .keyed) n)))
-    (λ n t. omega (arith, both, m .counted no′ (and-i (same p (r .key)) _ kr n), x .counts yes′, to-bit (yes′ (x .rec)) (and-i (same p (x .rec .key)) _ (x .keyed) t)))
-  where
-    bool-eq-bit : (a b : Bool) → (T a → T (not b) → ⊥) → (T (not a) → T b → ⊥) → bit a ≡ bit b
-    bool-eq-bit true true f g = refl
-    bool-eq-bit true false f g = absurd (f tt tt)
-    bool-eq-bit false true f g = absurd (g tt tt)
-    bool-eq-bit false false f g = refl
+    let both : tally passing rs + tally failing rs ≤ 1 = omega (arith, tally-parts (λ q. same p (q .key)) g rs) in
+    bit-eq (g r) (g (x .rec))
+    (λ t. bool (g (x .rec)) (λ u. u) (λ n.
+    absurd (omega (arith, m .counted passing (and-i (same p (r .key)) _ kr t), x .counts failing, to-bit (failing (x .rec)) (and-i (same p (x .rec .key)) _ (x .keyed) n)))))
+    (λ t. bool (g r) (λ u. u) (λ n.
+    absurd (omega (arith, m .counted failing (and-i (same p (r .key)) _ kr n), x .counts passing, to-bit (passing (x .rec)) (and-i (same p (x .rec .key)) _ (x .keyed) t)))))
 
 -- the state after a removal: well formed, on the same pages, less the record with these keys if there is one
 pub record Removed (L k N : ℕ) (s : State) (p : Key) : Type 0 where
