@@ -11,5 +11,5 @@ pub mod Own
 pub mod Walk
 pub mod Local
 pub mod Reading
-pub mod History
+pub mod Windows
 pub mod Cases

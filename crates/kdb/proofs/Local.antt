@@ -6,16 +6,15 @@ use mathlib.Core.Path.{_≡_, refl, sym, ap, ap₂, _∙_, subst}
 use Prim.Native.Nat.{ℕ, zero, suc, _+_, _-_, _*_, _/_, _%_, _<_, _≤_}
 use native.Mathlib.Omega.{arith}
 use lib.Dec.{T, leb, ltb, eqb, leb→le, nleb→lt, ltb→lt, nltb→le}
-use lib.ListN.{length, take, getD, length-take, length-append}
-use lib.Seq.{take-all, take-append-le}
+use lib.ListN.{length, take, drop, getD, length-take, length-append}
+use lib.Seq.{take-all, take-append-le, getD-take, getD-drop}
 use borrow.Author.Tests.{le-ltb}
-use Rattle.kdb.specs.Lists.{only, many}
+use Rattle.kdb.specs.Lists.{bit, only, every, many}
 use Rattle.kdb.specs.Box.{Box, Key, within, meets, inWindow}
 use Rattle.kdb.specs.Pages.{Ent, Page, blank, recsIn, entsIn, isPoints, isRegions, pointsPer, regionsPer, readPage, page}
 use Rattle.kdb.specs.Pool.{domains, rootAt, levelsAt, pagesIn, view, goodLength, goodHeader}
 use Rattle.kdb.specs.Walk.{Spot, spots, Tour, still, astray, badAt, readAt, follow, through, isPage, goodPoints, goodRegions, tour, bounded, listWalk, End, rootless, bad, absent, here, Search, ends, after, spotOf, into, seek, findWalk}
 use Rattle.kdb.specs.Calls.{Call, format, check, place, remove, find, list, Buffers, Outcome, unless, finding, listing, lent, finite, ordered, outcome, windowOf, begins, walkOf}
-use Rattle.kdb.proofs.Pages.{word-at}
 use Rattle.kdb.proofs.Lists.{and-i, bool, cases, is-true, self, tally-front, take-past, take-less, many-append}
 
 -- the walks begin with the same m + 1 pages and, if the first reads no more than m, are the same
@@ -184,7 +183,7 @@ bounded-seen Q L w N t =
 
 -- the words of page 0 are the pool's first
 header-word : (L : ℕ) (w : List ℕ) (i : ℕ) → i < L → getD (page L w 0) i 0 ≡ getD w i 0
-header-word L w i h = let e : L * 0 + i ≡ i = omega arith in word-at L w 0 i h ∙ ap (λ n. getD w n 0) e
+header-word L w i h = let e : L * 0 + i ≡ i = omega arith in getD-take L (drop (L * 0) w) i 0 h ∙ getD-drop (L * 0) w i 0 ∙ ap (λ n. getD w n 0) e
 
 -- two pools of one length, with the same header and the same pages of a list
 pub record Agree (L : ℕ) (w w′ : List ℕ) (read : List ℕ) : Type 0 where
