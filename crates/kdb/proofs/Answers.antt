@@ -21,6 +21,7 @@ use Rattle.kdb.proofs.Views.{finite-whole}
 use Rattle.kdb.proofs.Pool.{Sound-stands}
 use Rattle.kdb.proofs.Reading.{Answers, list-good, list-finds, find-rootless, find-answers}
 use Rattle.kdb.proofs.Calls.{goes-on}
+use Rattle.kdb.proofs.Windows.{fill-enough, fill-few}
 
 -- counting what a test keeps
 only-tally : (f g : Rec → Bool) (rs : List Rec) → tally g (only f rs) ≡ tally (λ r. f r && g r) rs
@@ -70,6 +71,8 @@ module _ (w : List ℕ) (sound : Sound L w) (rs : List Rec) (same : SameRecords 
       let exact : SameRecords found (inside (domains w) v rs) =
       subst (λ l. SameRecords l (inside (domains w) v rs)) (sym is) (same-only (λ r. inWindow window (r .key)) (recordsOf (stateOf L w)) rs same) in
       let long : length found ≡ length (t .found) = length-map (t .found) (λ x. x .rec) in
+      let answer : outcome w (list v slots) .after .answer ≡ take (length slots) (map (λ r. r .loc) found) ++ drop (length found) slots =
+      ap (λ o. o .after .answer) e ∙ (g .2 ∙ ap₂ (λ l n. take (length slots) l ++ drop n slots) (sym (map-loc (t .found))) (sym long)) in
       record {
         done = ap (λ o. o .number) e ∙ g .0;
         found = found;
@@ -77,8 +80,8 @@ module _ (w : List ℕ) (sound : Sound L w) (rs : List Rec) (same : SameRecords 
         total =
             ap (λ o. getD (o .values) 0 0) e ∙ (g .1 ∙ (sym long ∙ (ap length is
             ∙ (length-only (λ r. inWindow window (r .key)) (recordsOf (stateOf L w)) ∙ (same (λ r. inWindow window (r .key)) ∙ sym (length-only (λ r. inWindow window (r .key)) rs))))));
-        answer =
-            ap (λ o. o .after .answer) e ∙ (g .2 ∙ ap₂ (λ l n. take (length slots) l ++ drop n slots) (sym (map-loc (t .found))) (sym long));
+        enough = λ h. answer ∙ fill-enough (λ r. r .loc) slots found h;
+        few = λ h. answer ∙ fill-few (λ r. r .loc) slots found h;
       }
 
 -- of the records with a key that stands once at the most, two that pass different tests are none

@@ -3,35 +3,35 @@
 use mathlib.Core.Bool.{Bool, true, false, _&&_, not, cond}
 use mathlib.Core.List.{List, [], _∷_, _++_, map}
 use mathlib.Core.Option.{Option, none, some}
-use mathlib.Core.Path.{_≡_, refl, sym, ap, _∙_, subst, ap₂}
-use Prim.Native.Nat.{ℕ, zero, suc, _+_, _≤_, max, _-_, _<_, _*_}
+use mathlib.Core.Path.{_≡_, refl, sym, ap, _∙_, subst}
+use Prim.Native.Nat.{ℕ, zero, suc, _+_, _≤_, _<_}
 use native.Mathlib.Omega.{arith}
-use lib.Dec.{T, eqb, eqb→eq, T-not, leb, ltb, leb→le, le→leb, ltb→lt, lt→ltb}
-use lib.ListN.{length, take, drop, length-take, length-drop, length-append, getD}
+use lib.Dec.{T, eqb, eqb→eq, T-not}
+use lib.ListN.{length, getD}
 use mathlib.Core.Logic.{_↔_}
-use lib.Seq.{take-at, drop-at}
-use borrow.Author.Tests.{eq-eqb}
-use Rattle.kdb.specs.Lists.{bit, tally, same, every, many}
-use Rattle.kdb.specs.Box.{Key, whole, within, ∞, sides, meets}
-use Rattle.kdb.specs.Tree.{Rec, State, Tree, records, recordsOf}
-use Rattle.kdb.specs.Steps.{removed}
+use Rattle.kdb.specs.Lists.{bit, tally, same, many}
+use Rattle.kdb.specs.Box.{Key, whole, within}
+use Rattle.kdb.specs.Tree.{Rec, State, Tree, records, recordsOf, pagesOf}
+use Rattle.kdb.specs.Steps.{removed, freeOf}
+use Rattle.kdb.specs.Pages.{regionsPer, pointsPer}
 use Rattle.kdb.specs.Shape.{WellFormed}
-use Rattle.kdb.specs.Pool.{domains, pagesIn, goodLength, goodHeader, Sound, levelsAt, ownRegion, numbers}
+use Rattle.kdb.specs.Pool.{domains, pagesIn, goodLength, goodHeader, Sound, ownRegion}
 use Rattle.kdb.specs.Print.{printed, stateOf, sound}
 use Rattle.kdb.specs.Walk.{Spot, End, rootless, bad, absent, here, findWalk, listWalk}
-use Rattle.kdb.specs.Calls.{L, Call, format, check, place, remove, find, list, Outcome, goodDomains, finite, present, placing, removing, stepped, outcome, windowOf, ordered, walkOf, begins}
+use Rattle.kdb.specs.Calls.{L, Call, format, check, place, remove, find, list, Outcome, goodDomains, finite, present, placing, removing, stepped, outcome, windowOf, walkOf, begins}
 use Rattle.kdb.specs.History.{answerOf, run, answers, change, changed, live, Keeps}
-use Rattle.kdb.specs.Demands.{SameRecords, keyed, liveAfter, Demand2, ByTheSteps, goodWindow, goodPoint, Shares, met, Demand3, Bounded}
+use Rattle.kdb.specs.Demands.{SameRecords, keyed, liveAfter, Demand2, ByTheSteps, goodWindow, Shares, Demand3, Bounded}
 use Rattle.kdb.proofs.Walk.{walk-bound, list-returns, find-returns}
-use Rattle.kdb.proofs.Lists.{and-l, and-r, and-i, bool, tally-append, to-bit, no-bit, same-refl, In, every-append, every-take, is-true, of-true}
+use Rattle.kdb.proofs.Lists.{and-l, and-r, and-i, bool, tally-append, to-bit, no-bit, same-refl, In, is-true}
 use Rattle.kdb.proofs.Stands.{Stands}
 use Rattle.kdb.proofs.Views.{finite-whole}
 use Rattle.kdb.proofs.Print.{read-state}
 use Rattle.kdb.proofs.Pool.{print-sound, sound-iff, Sound-stands}
 use Rattle.kdb.proofs.Format.{formatted-printed, none-formed}
-use Rattle.kdb.proofs.Grow.{roomy-32, placed-formed, removed-formed, key-once}
-use Rattle.kdb.proofs.Reading.{Answers, find-rootless, find-answers, list-reads, list-once, list-count, list-point, one-point, find-reads}
-use Rattle.kdb.proofs.Calls.{done, refusal-keeps, check-still, find-still, list-still}
+use Rattle.kdb.proofs.Grow.{roomy-32, placed-formed, removed-formed, key-once, Placing, Placed, claims, placed-none-iff}
+use Rattle.kdb.proofs.Reading.{Answers, find-rootless, find-answers, list-reads, list-once, list-count, find-reads}
+use Rattle.kdb.proofs.Windows.{good-meets, point-good, point-reads}
+use Rattle.kdb.proofs.Calls.{done, refusal-keeps, check-still, find-still, list-still, goes-on}
 use Rattle.kdb.proofs.History.{without-tally, changed-same, keeps-run}
 use Rattle.kdb.proofs.Answers.{list-answers, find-finds, list-begins}
 
@@ -70,41 +70,56 @@ not-there w p h n = go (stateOf L w) (Sound-stands L w (h .well) big)
     go none st = refl
     go (some t) st = by-end t (findWalk L w p .end) n (find-answers L w p t st (passed-within w p h))
 
--- a done place: its tests, the step's state, and the pool after it
-place-steps : (w work p : List ℕ) (l : ℕ) → outcome w (place work p l) .number ≡ 0
-    → Passed w p × (tally (keyed p) (recordsOf (stateOf L w)) ≡ 0)
-    × ((s : State) × (stepped w (record { key = p; loc = l }) ≡ some s) × (outcome w (place work p l) .after .pool ≡ printed L (domains w) (pagesIn L w) s))
-place-steps w work p l z =
-    let d = done w (place work p l) z in
-    let a = goodLength L w in
-    let b = goodHeader L w in
+-- what place and remove have passed when they begin
+place-passed : (w work p : List ℕ) (l : ℕ) → T (begins w (place work p l)) → Passed w p × T (not (present (findWalk L w p .end)))
+place-passed w work p l h =
     let i = eqb (length p) (domains w) in
     let j = eqb (length work) (length w) in
-    let t3 = and-r b _ (and-r a _ (d .0)) in
+    let t3 = and-r (goodHeader L w) _ (and-r (goodLength L w) _ h) in
     let t4 = and-r (i && j) _ t3 in
-    let t6 = and-r (finite p) _ t4 in
-    let h : Passed w p = record { long = eqb→eq (length p) (domains w) (and-l i j (and-l (i && j) _ t3)); ends = and-l (finite p) _ t4; well = sound-iff L big w .0 (and-l (sound L w) _ t6) } in
-    let n = and-l (not (present (findWalk L w p .end))) _ (and-r (sound L w) _ t6) in
-    (h, not-there w p h n, go (stepped w (record { key = p; loc = l })) refl (sym (ap (λ o. o .number) (d .1)) ∙ z) (ap (λ o. o .after .pool) (d .1)))
+    let t6 = and-r (finite p) _ t4 in (
+      record { long = eqb→eq (length p) (domains w) (and-l i j (and-l (i && j) _ t3)); ends = and-l (finite p) _ t4; well = sound-iff L big w .0 (and-l (sound L w) _ t6) },
+      and-l (not (present (findWalk L w p .end))) _ (and-r (sound L w) _ t6),
+    )
+
+remove-passed : (w p : List ℕ) → T (begins w (remove p)) → Passed w p
+remove-passed w p h =
+    let i = eqb (length p) (domains w) in
+    let t3 = and-r (goodHeader L w) _ (and-r (goodLength L w) _ h) in
+    let t4 = and-r i _ t3 in
+    record { long = eqb→eq (length p) (domains w) (and-l i _ t3); ends = and-l (finite p) _ t4; well = sound-iff L big w .0 (and-l (sound L w) _ (and-r (finite p) _ t4)) }
+
+-- so that the tree's laws of placing hold
+place-placing : (w work p : List ℕ) (l : ℕ) → T (begins w (place work p l)) → Placing L (domains w) (pagesIn L w) (stateOf L w) (record { key = p; loc = l })
+place-placing w work p l h =
+    let c = place-passed w work p l h in
+    let f = Sound-stands L w (c .0 .well) big .formed in
+    record { roomy = roomy-32 (domains w) (f .domains .0) (f .domains .1); formed = f; inside = passed-within w p (c .0); new = not-there w p (c .0) (c .1) }
+
+-- a done place: the step's state, well-formed and with one record more, and the pool after it
+record PlaceDone (w work p : List ℕ) (l : ℕ) : Type 0 where
+  state : State
+  is : stepped w (record { key = p; loc = l }) ≡ some state
+  pool : outcome w (place work p l) .after .pool ≡ printed L (domains w) (pagesIn L w) state
+  placed : Placed L (domains w) (pagesIn L w) (stateOf L w) state (record { key = p; loc = l })
+
+place-done : (w work p : List ℕ) (l : ℕ) → outcome w (place work p l) .number ≡ 0 → PlaceDone w work p l
+place-done w work p l z =
+    let d = done w (place work p l) z in
+    go (stepped w (record { key = p; loc = l })) refl (sym (ap (λ o. o .number) (d .1)) ∙ z) (ap (λ o. o .after .pool) (d .1)) (place-placing w work p l (d .0))
   where
     go : (o : Option State) → stepped w (record { key = p; loc = l }) ≡ o → placing o w .number ≡ 0 → outcome w (place work p l) .after .pool ≡ placing o w .after .pool
-        → (s : State) × (stepped w (record { key = p; loc = l }) ≡ some s) × (outcome w (place work p l) .after .pool ≡ printed L (domains w) (pagesIn L w) s)
-    go none e z q = absurd (omega arith)
-    go (some s) e z q = (s, e, q)
+        → Placing L (domains w) (pagesIn L w) (stateOf L w) (record { key = p; loc = l }) → PlaceDone w work p l
+    go none e z q h = absurd (omega arith)
+    go (some s) e z q h = record { state = s; is = e; pool = q; placed = placed-formed L (domains w) (pagesIn L w) (stateOf L w) s (record { key = p; loc = l }) h e }
 
 -- a done remove: its tests, the record that went, and the pool after it
 remove-steps : (w p : List ℕ) → outcome w (remove p) .number ≡ 0
     → Passed w p × ((x : Spot) × (findWalk L w p .end ≡ here x)) × (outcome w (remove p) .after .pool ≡ printed L (domains w) (pagesIn L w) (removed (stateOf L w) p))
 remove-steps w p z =
     let d = done w (remove p) z in
-    let a = goodLength L w in
-    let b = goodHeader L w in
-    let i = eqb (length p) (domains w) in
-    let t3 = and-r b _ (and-r a _ (d .0)) in
-    let t4 = and-r i _ t3 in
-    let h : Passed w p = record { long = eqb→eq (length p) (domains w) (and-l i _ t3); ends = and-l (finite p) _ t4; well = sound-iff L big w .0 (and-l (sound L w) _ (and-r (finite p) _ t4)) } in
     let g = go (findWalk L w p .end) refl (sym (ap (λ o. o .number) (d .1)) ∙ z) (ap (λ o. o .after .pool) (d .1)) in
-    (h, g .0, g .1)
+    (remove-passed w p (d .0), g .0, g .1)
   where
     go : (e : End) → findWalk L w p .end ≡ e → removing e w p .number ≡ 0 → outcome w (remove p) .after .pool ≡ removing e w p .after .pool
         → ((x : Spot) × (findWalk L w p .end ≡ here x)) × (outcome w (remove p) .after .pool ≡ printed L (domains w) (pagesIn L w) (removed (stateOf L w) p))
@@ -117,18 +132,13 @@ remove-steps w p z =
 place-after : (w work p : List ℕ) (l : ℕ) → outcome w (place work p l) .number ≡ 0
     → Sound L (outcome w (place work p l) .after .pool) × SameRecords (recordsOf (stateOf L (outcome w (place work p l) .after .pool))) (recordsOf (stateOf L w) ++ (record { key = p; loc = l } ∷ []))
 place-after w work p l z =
-    let h = place-steps w work p l z in
-    let k = domains w in
-    let N = pagesIn L w in
+    let h = place-done w work p l z in
     let q : Rec = record { key = p; loc = l } in
-    let st = Sound-stands L w (h .0 .well) big in
-    let s = h .2 .0 in
-    let f = placed-formed L k N (stateOf L w) s q
-    (record { roomy = roomy-32 k (st .formed .domains .0) (st .formed .domains .1); formed = st .formed; inside = passed-within w p (h .0); new = h .1 }) (h .2 .1) in
-    let e = sym (h .2 .2) in (
-      subst (Sound L) e (printed-sound k N s (f .formed)),
+    let e = sym (h .pool) in (
+      subst (Sound L) e (printed-sound (domains w) (pagesIn L w) (h .state) (h .placed .formed)),
       subst (λ v. SameRecords (recordsOf (stateOf L v)) (recordsOf (stateOf L w) ++ (q ∷ []))) e
-          (λ g. ap (λ t. tally g (recordsOf t)) (read-state L k N s big (f .formed)) ∙ omega (arith, f .held g, tally-append g (recordsOf (stateOf L w)) (q ∷ []))),
+          (λ g. ap (λ t. tally g (recordsOf t)) (read-state L (domains w) (pagesIn L w) (h .state) big (h .placed .formed))
+          ∙ omega (arith, h .placed .held g, tally-append g (recordsOf (stateOf L w)) (q ∷ []))),
     )
 
 format-after : (w : List ℕ) (k : ℕ) → outcome w (format k) .number ≡ 0
@@ -247,60 +257,13 @@ pub by-the-steps : (w : List ℕ) → ByTheSteps w
 by-the-steps w =
     record {
       places = λ work p l z.
-          let h = place-steps w work p l z in
-          let k = domains w in
-          let st = Sound-stands L w (h .0 .well) big in
-          let f = placed-formed L k (pagesIn L w) (stateOf L w) (h .2 .0) (record { key = p; loc = l })
-          (record { roomy = roomy-32 k (st .formed .domains .0) (st .formed .domains .1); formed = st .formed; inside = passed-within w p (h .0); new = h .1 }) (h .2 .1) in
-          (h .2 .0, h .2 .1, h .2 .2, ap (stateOf L) (h .2 .2) ∙ read-state L k (pagesIn L w) (h .2 .0) big (f .formed));
+          let h = place-done w work p l z in
+          (h .state, h .is, h .pool, ap (stateOf L) (h .pool) ∙ read-state L (domains w) (pagesIn L w) (h .state) big (h .placed .formed));
       removes = λ p z.
           let h = remove-steps w p z in
           let st = Sound-stands L w (h .0 .well) big in
           (h .2, ap (stateOf L) (h .2) ∙ read-state L (domains w) (pagesIn L w) (removed (stateOf L w) p) big (removed-formed L (domains w) (pagesIn L w) (stateOf L w) p (st .formed) .formed));
     }
-
--- an accepted window meets the whole space
-window-whole : (k : ℕ) (ls us : List ℕ) → length ls ≡ k → length us ≡ k → T (finite ls) → T (ordered (sides ls us)) → T (meets (whole k) (sides ls us))
-window-whole zero [] us h j f o = tt
-window-whole zero (l ∷ ls) us h j f o = absurd (omega arith)
-window-whole (suc k) [] us h j f o = absurd (omega arith)
-window-whole (suc k) (l ∷ ls) [] h j f o = absurd (omega arith)
-window-whole (suc k) (l ∷ ls) (u ∷ us) h j f o =
-    let m = max 0 l in
-    let x : l < ∞ = ltb→lt l ∞ (and-l (ltb l ∞) _ f) in
-    let y : l ≤ u = leb→le l u (and-l (leb l u) _ o) in
-    and-i (ltb m ∞ && leb m u) _ (and-i (ltb m ∞) (leb m u) (lt→ltb m ∞ (omega arith)) (le→leb m u (omega arith)))
-    (window-whole k ls us (omega arith) (omega arith) (and-r (ltb l ∞) _ f) (and-r (leb l u) _ o))
-
-finite-append : (a b : List ℕ) → T (finite a) → T (finite b) → T (finite (a ++ b))
-finite-append a b = every-append (λ x. ltb x ∞) a b
-
-module _ (k : ℕ) (v : List ℕ) (h : T (goodWindow k v)) where
-  good-long : length v ≡ 2 * k
-  good-long = eqb→eq (length v) (2 * k) (and-l (eqb (length v) (2 * k)) _ (and-l (eqb (length v) (2 * k) && finite v) _ h))
-
-  good-meets : T (meets (whole k) (windowOf k v))
-  good-meets =
-      window-whole k (take k v) (drop k v) (length-take k v ∙ omega (arith, good-long)) (length-drop k v ∙ omega (arith, good-long))
-      (every-take (λ x. ltb x ∞) k v (and-r (eqb (length v) (2 * k)) _ (and-l (eqb (length v) (2 * k) && finite v) _ h)))
-      (and-r (eqb (length v) (2 * k) && finite v) _ h)
-
--- the window of one point
-point-window : (k : ℕ) (p : List ℕ) → length p ≡ k → windowOf k (p ++ p) ≡ sides p p
-point-window k p e = ap₂ sides (take-at p p k e) (drop-at p p k e)
-
-ordered-point : (p : List ℕ) → T (ordered (sides p p))
-ordered-point [] = tt
-ordered-point (x ∷ p) = and-i (leb x x) _ (le→leb x x (omega arith)) (ordered-point p)
-
-point-good : (k : ℕ) (p : List ℕ) → T (goodPoint k p) → T (goodWindow k (p ++ p))
-point-good k p h =
-    let e = eqb→eq (length p) k (and-l (eqb (length p) k) _ h) in
-    let f = and-r (eqb (length p) k) _ h in
-    let long : length (p ++ p) ≡ 2 * k = length-append p p ∙ omega arith in
-    and-i (eqb (length (p ++ p)) (2 * k) && finite (p ++ p)) _
-    (and-i (eqb (length (p ++ p)) (2 * k)) _ (of-true _ (eq-eqb (length (p ++ p)) (2 * k) long)) (finite-append p p f f))
-    (subst (λ v. T (ordered v)) (sym (point-window k p e)) (ordered-point p))
 
 -- Demand 3, on a sound pool
 module _ (w : List ℕ) (s : Sound L w) where
@@ -326,8 +289,7 @@ module _ (w : List ℕ) (s : Sound L w) where
             let k = domains w in
             let e = eqb→eq (length p) k (and-l (eqb (length p) k) _ h) in
             returned (p ++ p) slots (point-good k p h) ∙ (ap length (walked-list (p ++ p) slots (point-good k p h))
-            ∙ (ap (λ v. length (listWalk L w v .read)) (point-window k p e)
-            ∙ list-point L w (sides p p) p (stateOf L w) st (one-point p) (finite-whole k p e (and-r (eqb (length p) k) _ h))));
+            ∙ point-reads L w p (stateOf L w) st e (and-r (eqb (length p) k) _ h));
         find = λ p z.
             let d = done w (find p) z in
             let t3 = and-r (goodHeader L w) _ (and-r (goodLength L w) _ (d .0)) in
@@ -340,3 +302,17 @@ module _ (w : List ℕ) (s : Sound L w) where
 -- Demand 3, on any words
 pub bounded : (w : List ℕ) → Bounded w
 bounded w = walk-bound w
+
+-- 9 exactly if the steps would claim more pages than are free, once place has passed its tests
+pub nine-iff : (w work p : List ℕ) (l : ℕ) → T (begins w (place work p l))
+    → (outcome w (place work p l) .number ≡ 9)
+    ↔ (length (freeOf (pagesIn L w) (pagesOf (stateOf L w))) < claims (domains w) (regionsPer L (domains w)) (pointsPer L (domains w)) (pagesIn L w) (stateOf L w) (record { key = p; loc = l }))
+nine-iff w work p l h =
+    let q : Rec = record { key = p; loc = l } in
+    let o = goes-on w (place work p l) h in
+    let i = placed-none-iff L (domains w) (pagesIn L w) (stateOf L w) q (place-placing w work p l h) in
+    (λ z. i .0 (short (stepped w q) (sym (ap (λ x. x .number) o) ∙ z)), λ m. ap (λ x. x .number) o ∙ ap (λ s. placing s w .number) (i .1 m))
+  where
+    short : (s : Option State) → placing s w .number ≡ 9 → s ≡ none
+    short none z = refl
+    short (some s) z = absurd (omega arith)

@@ -19,6 +19,7 @@ pub mod Pool
 pub mod Format
 pub mod Reading
 pub mod Own
+pub mod Windows
 pub mod Cases
 pub mod Sessions
 pub mod Words

@@ -43,8 +43,9 @@ pub record Lists (w : List ℕ) (rs : List Rec) (v slots : List ℕ) : Type 0 wh
   pub found : List Rec
   pub exact : SameRecords found (inside (domains w) v rs)
   pub total : getD (outcome w (list v slots) .values) 0 0 ≡ length (inside (domains w) v rs)
-  -- the first slots take their locations, as many as there are; later slots are unchanged
-  pub answer : outcome w (list v slots) .after .answer ≡ take (length slots) (map (λ r. r .loc) found) ++ drop (length found) slots
+  -- with slots enough the first take the locations in walk order and later slots are unchanged; with too few all take the first locations
+  pub enough : length found ≤ length slots → outcome w (list v slots) .after .answer ≡ map (λ r. r .loc) found ++ drop (length found) slots
+  pub few : length slots ≤ length found → outcome w (list v slots) .after .answer ≡ take (length slots) (map (λ r. r .loc) found)
 
 -- find on pool w answers 0 with the location of the record of rs that has the point's keys, or 8 if there is none
 pub record Finds (w : List ℕ) (rs : List Rec) (p : List ℕ) : Type 0 where
