@@ -1,1 +1,4 @@
 pub mod Machine
+pub mod Entry
+pub mod Held
+pub mod Claim
