@@ -2,3 +2,4 @@ pub mod Machine
 pub mod Entry
 pub mod Held
 pub mod Claim
+pub mod Pass
