@@ -1,4 +1,9 @@
 pub mod Lists
 pub mod Box
+pub mod Tiling
+pub mod Fair
+pub mod Pages
+pub mod Views
 pub mod Stands
+pub mod Print
 pub mod Cases

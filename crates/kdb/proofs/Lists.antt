@@ -4,8 +4,8 @@ use mathlib.Core.List.{List, [], _∷_, _++_, map, append-assoc, append-nil}
 use mathlib.Core.Path.{_≡_, refl, sym, ap, ap₂, _∙_, subst}
 use Prim.Native.Nat.{ℕ, zero, suc, _+_, _-_, _*_, _<_, _≤_, min}
 use native.Mathlib.Omega.{arith}
+use native.Mathlib.Nat.{zero-add, suc-add, zero-mul, suc-mul}
 use lib.Dec.{T, T-not, leb, ltb, eqb, leb→le, le→leb, ltb→lt, lt→ltb, nleb→lt, nltb→le, eqb→eq, eqb-refl}
-use native.Mathlib.Nat.{zero-add, suc-add, suc-mul, zero-mul}
 use lib.ListN.{length, take, drop, getD, set, length-append}
 use lib.Seq.{sets}
 use borrow.Author.Tests.{eq-eqb, ne-eqb}
@@ -137,22 +137,244 @@ length-pad zero ws = refl
 length-pad (suc n) [] = ap suc (length-pad n [])
 length-pad (suc n) (w ∷ ws) = ap suc (length-pad n ws)
 
+-- reading and printing: properties of each element, padded words, sums over the numbers from a on
+module _ {ℓ} {A : Type ℓ} where
+  pub each-map : (P Q : A → Type 0) (l : List A) → ((a : A) → P a → Q a) → Each P l → Each Q l
+  each-map P Q [] f h = tt
+  each-map P Q (a ∷ l) f h = (f a (h .0), each-map P Q l f (h .1))
+
+  pub each-two : (P Q R : A → Type 0) (l : List A) → ((a : A) → P a → Q a → R a) → Each P l → Each Q l → Each R l
+  each-two P Q R [] f h g = tt
+  each-two P Q R (a ∷ l) f h g = (f a (h .0) (g .0), each-two P Q R l f (h .1) (g .1))
+
+  pub each-every : (P : A → Type 0) (t : A → Bool) (l : List A) → ((a : A) → T (t a) → P a) → T (every t l) → Each P l
+  each-every P t [] f h = tt
+  each-every P t (a ∷ l) f h = (f a (and-l (t a) _ h), each-every P t l f (and-r (t a) _ h))
+
+  pub every-each : (P : A → Type 0) (t : A → Bool) (l : List A) → ((a : A) → P a → T (t a)) → Each P l → T (every t l)
+  every-each P t [] f h = tt
+  every-each P t (a ∷ l) f h = and-i (t a) _ (f a (h .0)) (every-each P t l f (h .1))
+
+  pub length-gather : (g : A → List ℕ) (n : ℕ) (l : List A) → Each (λ a. length (g a) ≡ n) l → length (gather g l) ≡ length l * n
+  length-gather g n [] h = omega (arith, zero-mul n)
+  length-gather g n (a ∷ l) h = length-append (g a) (gather g l) ∙ omega (arith, h .0, length-gather g n l (h .1), suc-mul (length l) n)
+
+pub pad-tail : (n : ℕ) (ws : List ℕ) → length ws ≤ n → pad n ws ≡ ws ++ pad (n - length ws) []
+pad-tail n [] h = let e : n ≡ n - 0 = omega arith in ap (λ i. pad i []) e
+pad-tail zero (a ∷ ws) h = absurd (omega arith)
+pad-tail (suc n) (a ∷ ws) h =
+    let e : n - length ws ≡ suc n - suc (length ws) = omega arith in ap (λ r. a ∷ r) (pad-tail n ws (omega arith) ∙ ap (λ i. ws ++ pad i []) e)
+
+pub or-l : (a b : Bool) → T a → T (a || b)
+or-l true b t = tt
+or-l false b t = absurd t
+
+pub or-r : (a b : Bool) → T b → T (a || b)
+or-r true b t = tt
+or-r false b t = t
+
+pub some-many : (m : ℕ) → T (not (eqb m 0)) → 1 ≤ m
+some-many zero h = absurd h
+some-many (suc m) h = omega arith
+
+pub cond-case {ℓ} : {A : Type ℓ} (Q : A → Type 0) (t : Bool) (a b : A) → Q a → Q b → Q (cond t a b)
+cond-case Q true a b h g = h
+cond-case Q false a b h g = g
+
+pub zeros-pad : (l : List ℕ) (n : ℕ) → length l ≡ n → T (every (eqb 0) l) → l ≡ pad n []
+zeros-pad [] zero h z = refl
+zeros-pad [] (suc n) h z = absurd (omega arith)
+zeros-pad (a ∷ l) zero h z = absurd (omega arith)
+zeros-pad (a ∷ l) (suc n) h z = ap₂ _∷_ (sym (eqb→eq 0 a (and-l (eqb 0 a) _ z))) (zeros-pad l n (omega arith) (and-r (eqb 0 a) _ z))
+
+pub pad-zeros : (n : ℕ) → T (every (eqb 0) (pad n []))
+pad-zeros zero = tt
+pad-zeros (suc n) = pad-zeros n
+
+pub sum-same : (f g : ℕ → ℕ) → ((j : ℕ) → f j ≡ g j) → (l : List ℕ) → sum (map f l) ≡ sum (map g l)
+sum-same f g e [] = refl
+sum-same f g e (a ∷ l) = ap₂ _+_ (e a) (sum-same f g e l)
+
+pub sum-add : (f g : ℕ → ℕ) (l : List ℕ) → sum (map (λ j. f j + g j) l) ≡ sum (map f l) + sum (map g l)
+sum-add f g [] = omega arith
+sum-add f g (a ∷ l) = omega (arith, sum-add f g l)
+
+pub sum-none : (l : List ℕ) → sum (map (λ j. 0) l) ≡ 0
+sum-none [] = refl
+sum-none (a ∷ l) = omega (arith, sum-none l)
+
+sum-most : (f : ℕ → ℕ) → ((j : ℕ) → f j ≤ 1) → (n a : ℕ) → sum (map f (upFrom n a)) ≤ n
+sum-most f h zero a = omega arith
+sum-most f h (suc n) a = omega (arith, h a, sum-most f h n (suc a))
+
+sum-miss : (m p n a : ℕ) → p < a → sum (map (λ j. cond (eqb j p) m 0) (upFrom n a)) ≡ 0
+sum-miss m p zero a h = refl
+sum-miss m p (suc n) a h = rw (ne-eqb a p (λ e. omega arith)) (omega (arith, sum-miss m p n (suc a) (omega arith)))
+
+-- of the numbers from a on, p alone counts
+pub sum-hit : (m p n a : ℕ) → a ≤ p → p < a + n → sum (map (λ j. cond (eqb j p) m 0) (upFrom n a)) ≡ m
+sum-hit m p zero a h g = absurd (omega arith)
+sum-hit m p (suc n) a h g =
+    bool (eqb a p)
+    (λ t. let e = eqb→eq a p t in rw (eq-eqb a p e) (omega (arith, sum-miss m p n (suc a) (omega arith))))
+    (λ t. let ne : a ≡ p → ⊥ = λ e. T-not (eqb a p) t (of-true (eqb a p) (eq-eqb a p e)) in
+    rw (ne-eqb a p ne) (omega (arith, sum-hit m p n (suc a) (above ne) (omega arith))))
+  where
+    above : (a ≡ p → ⊥) → suc a ≤ p
+    above ne = omega arith
+
+-- every number of the list is one of the n from a on
+pub record Ranged (n a : ℕ) (ps : List ℕ) : Type 0 where
+  pub is : (c : ℕ) → 1 ≤ many c ps → (a ≤ c) × (c < a + n)
+
+sum-many : (ps : List ℕ) (n a : ℕ) → Ranged n a ps → sum (map (λ j. many j ps) (upFrom n a)) ≡ length ps
+sum-many [] n a h = sum-none (upFrom n a)
+sum-many (p ∷ ps) n a h =
+    let here = h .is p (omega (arith, self p)) in
+    let rest = sum-many ps n a (record { is = λ c i. h .is c (omega arith) }) in
+    let hit = sum-hit 1 p n a (here .0) (here .1) in
+    let same = sum-same (λ j. bit (eqb j p)) (λ j. cond (eqb j p) 1 0) (λ j. as-cond (eqb j p)) (upFrom n a) in
+    sum-add (λ j. bit (eqb j p)) (λ j. many j ps) (upFrom n a) ∙ omega arith
+  where
+    as-cond : (t : Bool) → bit t ≡ cond t 1 0
+    as-cond true = refl
+    as-cond false = refl
+
+-- different numbers, all of the n from a on, are at most n
+pub few : (ps : List ℕ) (n a : ℕ) → Ranged n a ps → ((c : ℕ) → many c ps ≤ 1) → length ps ≤ n
+few ps n a h once = omega (arith, sum-many ps n a h, sum-most (λ j. many j ps) once n a)
+
+pub getD-pad : (n : ℕ) (ws : List ℕ) (i : ℕ) → i < n → getD (pad n ws) i 0 ≡ getD ws i 0
+getD-pad zero ws i h = absurd (omega arith)
+getD-pad (suc n) [] zero h = refl
+getD-pad (suc n) [] (suc i) h = getD-pad n [] i (omega arith)
+getD-pad (suc n) (a ∷ ws) zero h = refl
+getD-pad (suc n) (a ∷ ws) (suc i) h = getD-pad n ws i (omega arith)
+
+-- elements, counts by several tests, and choices: for tilings, cuts and the tree's steps
+pub and-false : (a : Bool) → a && false ≡ false
+and-false true = refl
+and-false false = refl
+
+pub and-swap : (a b c : Bool) → a && (b && c) ≡ b && (a && c)
+and-swap true b c = refl
+and-swap false true c = refl
+and-swap false false c = refl
+
+-- a test that follows adds nothing
+pub and-need : (a b : Bool) → (T b → T a) → a && b ≡ b
+and-need true b f = refl
+and-need false true f = absurd (f tt)
+and-need false false f = refl
+
+pub and-never : (a b : Bool) → (T b → T (not a)) → a && b ≡ false
+and-never true true f = absurd (f tt)
+and-never true false f = refl
+and-never false b f = refl
+
+pub bit-imp : (a b : Bool) → (T a → T b) → bit a ≤ bit b
+bit-imp true true f = omega arith
+bit-imp true false f = absurd (f tt)
+bit-imp false b f = omega arith
+
+pub bit-both : (t : Bool) → bit t + bit (not t) ≡ 1
+bit-both true = refl
+bit-both false = refl
+
+-- an element of a list: each test that it passes is passed in the list
+pub record In {ℓ} {A : Type ℓ} (a : A) (l : List A) : Type ℓ where
+  pub counted : (h : A → Bool) → T (h a) → 1 ≤ tally h l
+
+module _ {ℓ} {A : Type ℓ} where
+  pub in-head : (a : A) (l : List A) → In a (a ∷ l)
+  in-head a l = record { counted = λ h t. omega (arith, to-bit (h a) t) }
+
+  pub in-tail : (a b : A) (l : List A) → In a l → In a (b ∷ l)
+  in-tail a b l m = record { counted = λ h t. omega (arith, m .counted h t) }
+
+  pub found : (f : A → Bool) (l : List A) → 1 ≤ tally f l → (a : A) × T (f a) × In a l
+  found f [] k = absurd (omega arith)
+  found f (b ∷ l) k =
+      bool (f b) (λ t. (b, t, in-head b l))
+      (λ t. let i = found f l (omega (arith, no-bit (f b) (T-not (f b) t))) in (i .0, i .1, in-tail (i .0) b l (i .2)))
+
+  pub every-none : (f : A → Bool) (l : List A) → T (every f l) → tally (λ a. not (f a)) l ≡ 0
+  every-none f [] t = refl
+  every-none f (a ∷ l) t =
+      omega (arith, no-bit (not (f a)) (λ n. T-not (f a) n (and-l (f a) _ t)), every-none f l (and-r (f a) _ t))
+
+  pub every-in : (f : A → Bool) (a : A) (l : List A) → T (every f l) → In a l → T (f a)
+  every-in f a l t m =
+      bool (f a) (λ y. y) (λ n. absurd (omega (arith, m .counted (λ b. not (f b)) n, every-none f l t)))
+
+  pub in-every : (f : A → Bool) (l : List A) → ((a : A) → In a l → T (f a)) → T (every f l)
+  in-every f [] g = tt
+  in-every f (a ∷ l) g = and-i (f a) _ (g a (in-head a l)) (in-every f l (λ b m. g b (in-tail b a l m)))
+
+  pub any-in : (f : A → Bool) (l : List A) → T (any f l) → 1 ≤ tally f l
+  any-in f [] t = absurd t
+  any-in f (a ∷ l) t =
+      bool (f a) (λ y. omega (arith, to-bit (f a) y)) (λ n. omega (arith, any-in f l (go (f a) n t)))
+    where
+      go : (b : Bool) → T (not b) → T (b || any f l) → T (any f l)
+      go true n t = absurd n
+      go false n t = t
+
+  pub in-any : (f : A → Bool) (l : List A) → 1 ≤ tally f l → T (any f l)
+  in-any f [] h = absurd (omega arith)
+  in-any f (a ∷ l) h = go (f a) h (in-any f l)
+    where
+      go : (b : Bool) → 1 ≤ bit b + tally f l → (1 ≤ tally f l → T (any f l)) → T (b || any f l)
+      go true h r = tt
+      go false h r = r (omega arith)
+
+  pub tally-imp : (f g : A → Bool) → ((a : A) → T (f a) → T (g a)) → (l : List A) → tally f l ≤ tally g l
+  tally-imp f g h [] = omega arith
+  tally-imp f g h (a ∷ l) = omega (arith, bit-imp (f a) (g a) (h a), tally-imp f g h l)
+
+  pub tally-both : (f : A → Bool) (l : List A) → tally f l + tally (λ a. not (f a)) l ≡ length l
+  tally-both f [] = refl
+  tally-both f (a ∷ l) = omega (arith, bit-both (f a), tally-both f l)
+
+  -- one test before another
+  pub tally-and : (c : Bool) (f : A → Bool) (l : List A) → tally (λ a. c && f a) l ≡ cond c (tally f l) 0
+  tally-and true f l = refl
+  tally-and false f [] = refl
+  tally-and false f (a ∷ l) = omega (arith, tally-and false f l)
+
+  -- what a test keeps passes it, and passes every test that all passed
+  pub every-only : (f g h : A → Bool) → ((a : A) → T (f a) → T (g a) → T (h a)) → (l : List A) → T (every g l) → T (every h (only f l))
+  every-only f g h i [] t = tt
+  every-only f g h i (a ∷ l) t =
+      let r = every-only f g h i l (and-r (g a) _ t) in
+      cases (λ c. T (every h (cond c (a ∷ only f l) (only f l)))) (f a) (λ y. and-i (h a) _ (i a y (and-l (g a) _ t)) r) (λ n. r)
+
+  pub tally-only : (f g : A → Bool) (l : List A) → tally g (only f l) ≤ tally g l
+  tally-only f g [] = omega arith
+  tally-only f g (a ∷ l) =
+      let r = tally-only f g l in
+      cases (λ c. tally g (cond c (a ∷ only f l) (only f l)) ≤ bit (g a) + tally g l) (f a) (λ y. omega arith) (λ n. omega arith)
+
+  -- what a test keeps and what it leaves, together
+  pub tally-halves : (f g : A → Bool) (l : List A) → tally g (only f l) + tally g (only (λ a. not (f a)) l) ≡ tally g l
+  tally-halves f g [] = refl
+  tally-halves f g (a ∷ l) =
+      let r = tally-halves f g l in
+      cases (λ c. tally g (cond c (a ∷ only f l) (only f l)) + tally g (cond (not c) (a ∷ only (λ b. not (f b)) l) (only (λ b. not (f b)) l)) ≡ bit (g a) + tally g l)
+      (f a) (λ y. omega arith) (λ n. omega arith)
+
+pub tally-map {ℓ κ} : {A : Type ℓ} {B : Type κ} (g : B → Bool) (f : A → B) (l : List A) → tally g (map f l) ≡ tally (λ a. g (f a)) l
+tally-map g f [] = refl
+tally-map g f (a ∷ l) = ap (λ n. bit (g (f a)) + n) (tally-map g f l)
+
 -- pages' words: stores, padding, entries joined, and numbers that pass a test
 pub ne-of-bit : (c j : ℕ) → bit (eqb c j) ≡ 0 → (c ≡ j → ⊥)
 ne-of-bit c j h e = let g = self j in let u : bit (eqb j j) ≡ 0 = subst (λ i. bit (eqb i j) ≡ 0) e h in absurd (omega arith)
-
-pub bit-false : (b : Bool) → bit b ≡ 0 → b ≡ false
-bit-false true h = absurd (omega arith)
-bit-false false h = refl
 
 -- a count is 0, or not
 pub none-of : (n : ℕ) → (1 ≤ n → ⊥) → n ≡ 0
 none-of zero h = refl
 none-of (suc n) h = absurd (h (omega arith))
-
-pub some-of : (n : ℕ) → T (not (eqb n 0)) → 1 ≤ n
-some-of zero h = absurd h
-some-of (suc n) h = omega arith
 
 module _ {ℓ} {A : Type ℓ} where
   pub each-append : (Q : A → Type 0) (l m : List A) → Each Q l → Each Q m → Each Q (l ++ m)
@@ -200,18 +422,6 @@ module _ {ℓ κ} {A : Type ℓ} {B : Type κ} (g : A → List B) where
   gather-append [] m = refl
   gather-append (a ∷ l) m = ap (λ r. g a ++ r) (gather-append l m) ∙ sym (append-assoc (g a) (gather g l) (gather g m))
 
-  -- elements of one length
-  pub gather-length : (wd : ℕ) (l : List A) → Each (λ a. length (g a) ≡ wd) l → length (gather g l) ≡ length l * wd
-  gather-length wd [] h = omega (arith, zero-mul wd)
-  gather-length wd (a ∷ l) h = length-append (g a) (gather g l) ∙ omega (arith, gather-length wd l (h .1), suc-mul (length l) wd)
-
-pub pad-tail : (n : ℕ) (ws : List ℕ) → length ws ≤ n → pad n ws ≡ ws ++ pad (n - length ws) []
-pad-tail n [] h = let e : n ≡ n - 0 = omega arith in ap (λ i. pad i []) e
-pad-tail zero (a ∷ ws) h = absurd (omega arith)
-pad-tail (suc n) (a ∷ ws) h =
-    let e : n - length ws ≡ suc n - suc (length ws) = omega arith in
-    ap (λ r. a ∷ r) (pad-tail n ws (omega arith) ∙ ap (λ i. ws ++ pad i []) e)
-
 -- padding twice
 pub pad-pad : (n m : ℕ) (ws : List ℕ) → length ws ≤ n → n ≤ m → pad m (pad n ws) ≡ pad m ws
 pad-pad zero m [] h i = refl
@@ -235,13 +445,6 @@ pad-set n [] i v h = absurd (omega arith)
 pad-set zero (a ∷ ws) i v h = refl
 pad-set (suc n) (a ∷ ws) zero v h = refl
 pad-set (suc n) (a ∷ ws) (suc i) v h = ap (λ r. a ∷ r) (pad-set n ws i v (omega arith))
-
-pub getD-pad : (n : ℕ) (ws : List ℕ) (i : ℕ) → i < n → getD (pad n ws) i 0 ≡ getD ws i 0
-getD-pad zero ws i h = absurd (omega arith)
-getD-pad (suc n) [] zero h = refl
-getD-pad (suc n) [] (suc i) h = getD-pad n [] i (omega arith)
-getD-pad (suc n) (a ∷ ws) zero h = refl
-getD-pad (suc n) (a ∷ ws) (suc i) h = getD-pad n ws i (omega arith)
 
 -- the entry between goes, and zeros come behind
 pub pad-gap : (n : ℕ) (xs es ys : List ℕ) → length xs + (length es + length ys) ≤ n → sets (pad n (xs ++ (es ++ ys))) (length xs) (ys ++ pad (length es) []) ≡ pad n (xs ++ ys)

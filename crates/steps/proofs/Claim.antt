@@ -12,7 +12,8 @@ use Rattle.kdb.specs.Pages.{layout, page}
 use Rattle.kdb.proofs.Lists.{bool, self, no-bit, length-pad, only-same, only-in, only-once, only-claimed}
 use Rattle.steps.specs.Machine.{Claimed, word, freshIn}
 use Rattle.steps.specs.Claim.{freeFrom, lowest, claimIn}
-use Rattle.steps.proofs.Machine.{Wrote, word-page, fresh}
+use Rattle.kdb.proofs.Pages.{word-at}
+use Rattle.steps.proofs.Machine.{Wrote, fresh}
 
 abbrev headOr : List ℕ → ℕ → ℕ
 headOr [] z = z
@@ -21,10 +22,10 @@ headOr (a ∷ l) z = a
 -- the store leaves every page's kind
 module _ (L : ℕ) (big : 4 ≤ L) where
   pub kind-at : (w : List ℕ) (c kd m e : ℕ) (ws : List ℕ) → page L w c ≡ layout L kd m e ws → word L w c 0 ≡ kd
-  kind-at w c kd m e ws h = word-page L w c 0 (omega arith) ∙ ap (λ p. getD p 0 0) h
+  kind-at w c kd m e ws h = sym (word-at L w c 0 (omega arith)) ∙ ap (λ p. getD p 0 0) h
 
   pub kind-same : (w w′ : List ℕ) (c : ℕ) → page L w′ c ≡ page L w c → word L w′ c 0 ≡ word L w c 0
-  kind-same w w′ c h = word-page L w′ c 0 (omega arith) ∙ (ap (λ p. getD p 0 0) h ∙ sym (word-page L w c 0 (omega arith)))
+  kind-same w w′ c h = sym (word-at L w′ c 0 (omega arith)) ∙ (ap (λ p. getD p 0 0) h ∙ word-at L w c 0 (omega arith))
 
   pub kinds : (w w′ : List ℕ) (j kd m m′ e e′ : ℕ) (ws ws′ : List ℕ) → page L w j ≡ layout L kd m e ws → Wrote L w j (layout L kd m′ e′ ws′) w′ → (c : ℕ) → word L w′ c 0 ≡ word L w c 0
   kinds w w′ j kd m m′ e e′ ws ws′ h o c =

@@ -1,32 +1,20 @@
 -- The words of an entry: where its ends and its child stand, and what a store of one word makes of it.
-use mathlib.Core.List.{List, [], _∷_, _++_, append-assoc, map}
+use mathlib.Core.List.{List, [], _∷_, _++_, append-assoc}
 use mathlib.Core.Path.{_≡_, refl, sym, ap, ap₂, _∙_, subst}
 use Prim.Native.Nat.{ℕ, zero, suc, _+_, _*_, _<_, _≤_}
 use native.Mathlib.Omega.{arith}
-use lib.ListN.{length, take, drop, getD, set, length-append, List·getD-append}
+use lib.ListN.{length, take, drop, getD, set, length-map, List·getD-append}
 use lib.Seq.{getD-append-add, getD-at, set-at, getD-drop, take-at, drop-at, drop-drop}
-use Rattle.kdb.specs.Box.{Side, Box, Key, sides, keyAt, lowerAt, upperAt, leftPart, rightPart}
+use Rattle.kdb.specs.Box.{Box, keyAt, lowerAt, upperAt, leftPart, rightPart}
 use Rattle.kdb.specs.Tree.{Rec}
 use Rattle.kdb.specs.Pages.{Ent, wordsR, wordsE}
 use Rattle.kdb.proofs.Lists.{set-append-add}
+use Rattle.kdb.proofs.Tiling.{part-length}
+use Rattle.kdb.proofs.Pages.{lows, highs, both-length, entOf, ent-back}
 use Rattle.steps.specs.Grow.{boxAt}
-
-abbrev pub lows : Box → List ℕ
-lows b = map (λ s. s .lo) b
-
-abbrev pub highs : Box → List ℕ
-highs b = map (λ s. s .hi) b
 
 abbrev pub ent : Box → ℕ → Ent
 ent b c = record { box = b; child = c }
-
-pub length-lows : (b : Box) → length (lows b) ≡ length b
-length-lows [] = refl
-length-lows (s ∷ b) = ap suc (length-lows b)
-
-pub length-highs : (b : Box) → length (highs b) ≡ length b
-length-highs [] = refl
-length-highs (s ∷ b) = ap suc (length-highs b)
 
 low-word : (b : Box) (z : List ℕ) (d : ℕ) → d < length b → getD (lows b ++ z) d 0 ≡ lowerAt d b
 low-word [] z d h = absurd (omega arith)
@@ -58,33 +46,21 @@ highs-right d x [] = refl
 highs-right zero x (s ∷ b) = refl
 highs-right (suc d) x (s ∷ b) = ap (λ r. s .hi ∷ r) (highs-right d x b)
 
-pub length-left : (d x : ℕ) (b : Box) → length (leftPart d x b) ≡ length b
-length-left d x b = sym (length-lows (leftPart d x b)) ∙ (ap length (lows-left d x b) ∙ length-lows b)
-
-pub length-right : (d x : ℕ) (b : Box) → length (rightPart d x b) ≡ length b
-length-right d x b = sym (length-highs (rightPart d x b)) ∙ (ap length (highs-right d x b) ∙ length-highs b)
-
 -- an entry whose region has k sides
 module _ (k : ℕ) (b : Box) (c : ℕ) (n : length b ≡ k) where
-  two : length (lows b ++ highs b) ≡ 2 * k
-  two = omega (arith, length-append (lows b) (highs b), length-lows b, length-highs b, n)
-
   pub entry-child : getD (wordsE (ent b c)) (2 * k) 0 ≡ c
-  entry-child = ap (λ l. getD l (2 * k) 0) (sym (append-assoc (lows b) (highs b) (c ∷ []))) ∙ getD-at (lows b ++ highs b) c [] 0 (2 * k) two
-
-  pub entry-length : length (wordsE (ent b c)) ≡ 2 * k + 1
-  entry-length = ap length (sym (append-assoc (lows b) (highs b) (c ∷ []))) ∙ (length-append (lows b ++ highs b) (c ∷ []) ∙ omega (arith, two))
+  entry-child = ap (λ l. getD l (2 * k) 0) (sym (append-assoc (lows b) (highs b) (c ∷ []))) ∙ getD-at (lows b ++ highs b) c [] 0 (2 * k) (both-length k b n)
 
   pub entry-child-set : (q : ℕ) → set (wordsE (ent b c)) (2 * k) q ≡ wordsE (ent b q)
   entry-child-set q =
-      ap (λ l. set l (2 * k) q) (sym (append-assoc (lows b) (highs b) (c ∷ []))) ∙ (set-at (lows b ++ highs b) c [] q (2 * k) two ∙ append-assoc (lows b) (highs b) (q ∷ []))
+      ap (λ l. set l (2 * k) q) (sym (append-assoc (lows b) (highs b) (c ∷ []))) ∙ (set-at (lows b ++ highs b) c [] q (2 * k) (both-length k b n) ∙ append-assoc (lows b) (highs b) (q ∷ []))
 
   module _ (d : ℕ) (low : d < k) where
     pub entry-lower : getD (wordsE (ent b c)) d 0 ≡ lowerAt d b
     entry-lower = low-word b (highs b ++ (c ∷ [])) d (omega (arith, n))
 
     at-high : k + d ≡ length (lows b) + d
-    at-high = omega (arith, n, length-lows b)
+    at-high = omega (arith, n, length-map b (λ s. s .lo))
 
     pub entry-upper : getD (wordsE (ent b c)) (k + d) 0 ≡ upperAt d b
     entry-upper = ap (λ i. getD (wordsE (ent b c)) i 0) at-high ∙ (getD-append-add (lows b) (highs b ++ (c ∷ [])) d 0 ∙ high-word b (c ∷ []) d (omega (arith, n)))
@@ -98,7 +74,7 @@ module _ (k : ℕ) (b : Box) (c : ℕ) (n : length b ≡ k) where
     entry-low-set x = set-low b (highs b ++ (c ∷ [])) d x (omega (arith, n)) ∙ ap (λ h. lows (rightPart d x b) ++ (h ++ (c ∷ []))) (sym (highs-right d x b))
 
 pub entry-right : (k : ℕ) (b : Box) (c : ℕ) → length b ≡ k → (d : ℕ) → d < k → (x q : ℕ) → set (set (wordsE (ent b c)) d x) (2 * k) q ≡ wordsE (ent (rightPart d x b) q)
-entry-right k b c n d low x q = ap (λ l. set l (2 * k) q) (entry-low-set k b c n d low x) ∙ entry-child-set k (rightPart d x b) c (length-right d x b ∙ n) q
+entry-right k b c n d low x q = ap (λ l. set l (2 * k) q) (entry-low-set k b c n d low x) ∙ entry-child-set k (rightPart d x b) c (part-length false d x b ∙ n) q
 
 key-word : (ks z : List ℕ) (d : ℕ) → d < length ks → getD (ks ++ z) d 0 ≡ keyAt d ks
 key-word [] z d h = absurd (omega arith)
@@ -108,9 +84,6 @@ key-word (a ∷ ks) z (suc d) h = key-word ks z d (omega arith)
 pub rec-key : (k : ℕ) (r : Rec) → length (r .key) ≡ k → (d : ℕ) → d < k → getD (wordsR r) d 0 ≡ keyAt d (r .key)
 rec-key k r n d low = key-word (r .key) (r .loc ∷ []) d (omega (arith, n))
 
-pub rec-length : (k : ℕ) (r : Rec) → length (r .key) ≡ k → length (wordsR r) ≡ k + 1
-rec-length k r n = length-append (r .key) (r .loc ∷ []) ∙ omega (arith, n)
-
 -- the entry u at word a of some words
 module _ (src : List ℕ) (a wd : ℕ) (u zs : List ℕ) (h : drop a src ≡ u ++ zs) (n : length u ≡ wd) where
   pub words-at : take wd (drop a src) ≡ u
@@ -119,17 +92,9 @@ module _ (src : List ℕ) (a wd : ℕ) (u zs : List ℕ) (h : drop a src ≡ u +
   pub words-after : drop (a + wd) src ≡ zs
   words-after = sym (drop-drop wd a src) ∙ (ap (drop wd) h ∙ drop-at u zs wd n)
 
-  pub word-at : (i : ℕ) → i < wd → getD src (a + i) 0 ≡ getD u i 0
-  word-at i l = sym (getD-drop a src i 0) ∙ (ap (λ v. getD v i 0) h ∙ List·getD-append u zs 0 i (omega (arith, n)))
+  pub word-in : (i : ℕ) → i < wd → getD src (a + i) 0 ≡ getD u i 0
+  word-in i l = sym (getD-drop a src i 0) ∙ (ap (λ v. getD v i 0) h ∙ List·getD-append u zs 0 i (omega (arith, n)))
 
 -- the region at word a
-pub sides-back : (b : Box) → sides (lows b) (highs b) ≡ b
-sides-back [] = refl
-sides-back (s ∷ b) = ap (λ c. s ∷ c) (sides-back b)
-
 pub box-at : (k : ℕ) (b : Box) (c : ℕ) → length b ≡ k → (src : List ℕ) (a : ℕ) (zs : List ℕ) → drop a src ≡ wordsE (ent b c) ++ zs → boxAt k src a ≡ b
-box-at k b c n src a zs h =
-    let e : drop a src ≡ lows b ++ (highs b ++ ((c ∷ []) ++ zs)) = h ∙ (append-assoc (lows b) (highs b ++ (c ∷ [])) zs ∙ ap (λ l. lows b ++ l) (append-assoc (highs b) (c ∷ []) zs)) in
-    let lo : take k (drop a src) ≡ lows b = ap (take k) e ∙ take-at (lows b) _ k (length-lows b ∙ n) in
-    let hi : take k (drop k (drop a src)) ≡ highs b = ap (λ v. take k (drop k v)) e ∙ (ap (take k) (drop-at (lows b) _ k (length-lows b ∙ n)) ∙ take-at (highs b) _ k (length-highs b ∙ n)) in
-    ap₂ sides lo hi ∙ sides-back b
+box-at k b c n src a zs h = ap (λ v. entOf k v .box) h ∙ ap (λ e. e .box) (ent-back k (ent b c) zs n)

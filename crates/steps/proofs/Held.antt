@@ -7,18 +7,19 @@ use native.Mathlib.Omega.{arith}
 use lib.ListN.{length}
 use Rattle.kdb.specs.Lists.{many, Each, gather}
 use Rattle.kdb.specs.Tree.{Rec, Tree, leaf, node, Forest, fnil, fcons, root, pages, pagesF}
-use Rattle.kdb.specs.Pages.{Ent, Page, points, regions, wordsR, wordsE}
+use Rattle.kdb.specs.Pages.{points, regions, wordsR, wordsE, printPage}
 use Rattle.kdb.specs.Steps.{size, joinF}
 use Rattle.kdb.specs.Print.{ents}
-use Rattle.kdb.proofs.Lists.{self, many-append, gather-append, gather-length}
-use Rattle.steps.proofs.Entry.{ent, entry-length, rec-length}
+use Rattle.kdb.proofs.Lists.{self, many-append, gather-append, length-gather, each-map}
+use Rattle.kdb.proofs.Pages.{rec-length, ent-length}
+use Rattle.steps.proofs.Entry.{ent}
 
--- every page of the tree stands in the store s, as g gives it
-module _ {A : Type 0} (g : Page → A) (s : ℕ → A) where
+-- every page of the tree stands printed in the store s
+module _ (L : ℕ) (s : ℕ → List ℕ) where
   abbrev mutual
     pub Holds : Tree → Type 0
-    Holds (leaf p d rs) = s p ≡ g (points d rs)
-    Holds (node p d f) = (s p ≡ g (regions d (ents f))) × HoldsF f
+    Holds (leaf p d rs) = s p ≡ printPage L (points d rs)
+    Holds (node p d f) = (s p ≡ printPage L (regions d (ents f))) × HoldsF f
 
     pub HoldsF : Forest → Type 0
     HoldsF fnil = Unit {0}
@@ -33,13 +34,13 @@ module _ {A : Type 0} (g : Page → A) (s : ℕ → A) where
   join-holds (fcons b t f) h a = let r = join-holds f h (a .1) in ((a .0, r .0), r .1)
 
 -- a store that has the tree's pages as before
-module _ {A : Type 0} (g : Page → A) (s s′ : ℕ → A) where
+module _ (L : ℕ) (s s′ : ℕ → List ℕ) where
   mutual
-    pub frame : (t : Tree) → ((c : ℕ) → 1 ≤ many c (pages t) → s′ c ≡ s c) → Holds g s t → Holds g s′ t
+    pub frame : (t : Tree) → ((c : ℕ) → 1 ≤ many c (pages t) → s′ c ≡ s c) → Holds L s t → Holds L s′ t
     frame (leaf p d rs) h a = h p (omega (arith, self p)) ∙ a
     frame (node p d f) h a = (h p (omega (arith, self p)) ∙ a .0, frameF f (λ c i. h c (omega arith)) (a .1))
 
-    pub frameF : (f : Forest) → ((c : ℕ) → 1 ≤ many c (pagesF f) → s′ c ≡ s c) → HoldsF g s f → HoldsF g s′ f
+    pub frameF : (f : Forest) → ((c : ℕ) → 1 ≤ many c (pagesF f) → s′ c ≡ s c) → HoldsF L s f → HoldsF L s′ f
     frameF fnil h a = a
     frameF (fcons b t f) h a =
         (frame t (λ c i. h c (omega (arith, many-append c (pages t) (pagesF f)))) (a .0), frameF f (λ c i. h c (omega (arith, many-append c (pages t) (pagesF f)))) (a .1))
@@ -67,18 +68,14 @@ module _ (k R P : ℕ) where
   join-fits n (fcons b t f) g h = let r = join-fits n f g (h .2) in ((h .0, h .1, r .0), r .1)
 
   pub entries-length : (n : ℕ) (f : Forest) → FitsF f n → length (gather wordsE (ents f)) ≡ length (ents f) * (2 * k + 1)
-  entries-length n f h = gather-length wordsE (2 * k + 1) (ents f) (each f h)
+  entries-length n f h = length-gather wordsE (2 * k + 1) (ents f) (each f h)
     where
       each : (f : Forest) → FitsF f n → Each (λ e. length (wordsE e) ≡ 2 * k + 1) (ents f)
       each fnil h = tt
-      each (fcons b t f) h = (entry-length k b (root t) (h .0), each f (h .2))
+      each (fcons b t f) h = (ent-length k (ent b (root t)) (h .0), each f (h .2))
 
 pub records-length : (k : ℕ) (rs : List Rec) → Keys k rs → length (gather wordsR rs) ≡ length rs * (k + 1)
-records-length k rs h = gather-length wordsR (k + 1) rs (each rs h)
-  where
-    each : (rs : List Rec) → Keys k rs → Each (λ r. length (wordsR r) ≡ k + 1) rs
-    each [] h = tt
-    each (r ∷ rs) h = (rec-length k r (h .0), each rs (h .1))
+records-length k rs h = length-gather wordsR (k + 1) rs (each-map (λ r. length (r .key) ≡ k) (λ r. length (wordsR r) ≡ k + 1) rs (rec-length k) h)
 
 -- forests joined
 pub size-ents : (f : Forest) → length (ents f) ≡ size f

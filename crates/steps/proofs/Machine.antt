@@ -1,54 +1,20 @@
--- Stores to a pool, seen page by page. Two laws, `page-sets` and `page-sets-other`, know where a page begins; every store then leaves one
--- record: the page that it wrote, the others as they were, the pool as long as it was.
+-- Stores to a pool, seen page by page: every store leaves one record, the page that it wrote, the others as they were, the pool as long
+-- as it was.
 use mathlib.Core.Bool.{Bool, true, false, cond}
 use mathlib.Core.List.{List, [], _∷_, _++_}
 use mathlib.Core.Path.{_≡_, refl, sym, ap, ap₂, _∙_, subst}
 use Prim.Native.Nat.{ℕ, zero, suc, _+_, _*_, _-_, _<_, _≤_}
 use native.Mathlib.Omega.{arith}
-use native.Mathlib.Nat.{mul-suc, mul-le-mul-left, add-zero, suc-mul}
-use native.Mathlib.Numerals.{add-one}
-use lib.Dec.{T, T-not, leb, eqb, leb→le, nleb→lt, eqb→eq}
-use lib.ListN.{length, take, drop, getD, set, length-set, length-append, take-append-drop}
-use lib.Seq.{sets, length-sets, take-set-lt, take-set-le, drop-set-add, drop-set-lt, getD-take, getD-drop, drop-drop, drop-append-le}
+use native.Mathlib.Nat.{add-zero, suc-mul}
+use lib.Dec.{leb, eqb}
+use lib.ListN.{length, take, drop, getD, set, length-append}
+use lib.Seq.{sets, length-sets}
 use borrow.Author.Tests.{le-leb}
 use Rattle.kdb.specs.Lists.{bit, pad}
 use Rattle.kdb.specs.Pages.{layout, page}
-use Rattle.kdb.proofs.Lists.{bool, no-bit, ne-of-bit, sets-cons, sets-all, length-pad, pad-sets, pad-set, pad-tail, pad-pad}
+use Rattle.kdb.proofs.Lists.{ne-of-bit, sets-cons, sets-all, length-pad, pad-sets, pad-tail, pad-pad}
+use Rattle.kdb.proofs.Pages.{page-sets, page-sets-other, word-at}
 use Rattle.steps.specs.Machine.{word, freshIn, appendIn, overfull}
-
--- pages do not overlap
-pub apart : (L c j : ℕ) → c < j → L * c + L ≤ L * j
-apart L c j h = omega (arith, mul-suc L c, mul-le-mul-left L h)
-
-module _ (L : ℕ) where
-  page-set : (w : List ℕ) (j i v : ℕ) → i < L → page L (set w (L * j + i) v) j ≡ set (page L w j) i v
-  page-set w j i v h = ap (take L) (drop-set-add (L * j) w i v) ∙ take-set-lt L (drop (L * j) w) i v h
-
-  page-set-other : (w : List ℕ) (j i v c : ℕ) → i < L → (c ≡ j → ⊥) → page L (set w (L * j + i) v) c ≡ page L w c
-  page-set-other w j i v c h n =
-      bool (leb j c)
-      (λ t. let l = leb→le j c t in let a = apart L j c (omega arith) in ap (take L) (drop-set-lt (L * c) w (L * j + i) v (omega arith)))
-      (λ t. let l = nleb→lt j c t in let a = apart L c j l in
-      let e : L * j + i ≡ L * c + (L * j + i - L * c) = omega arith in
-      ap (λ m. take L (drop (L * c) (set w m v))) e
-      ∙ (ap (take L) (drop-set-add (L * c) w (L * j + i - L * c) v) ∙ take-set-le L (drop (L * c) w) (L * j + i - L * c) v (omega arith)))
-
-  pub page-sets : (w : List ℕ) (j i : ℕ) (ys : List ℕ) → i + length ys ≤ L → page L (sets w (L * j + i) ys) j ≡ sets (page L w j) i ys
-  page-sets w j i [] h = refl
-  page-sets w j i (y ∷ ys) h =
-      let e : suc (L * j + i) ≡ L * j + suc i = omega arith in
-      ap (λ m. page L (sets (set w (L * j + i) y) m ys) j) e
-      ∙ (page-sets (set w (L * j + i) y) j (suc i) ys (omega arith) ∙ ap (λ p. sets p (suc i) ys) (page-set w j i y (omega arith)))
-
-  pub page-sets-other : (w : List ℕ) (j i : ℕ) (ys : List ℕ) (c : ℕ) → i + length ys ≤ L → (c ≡ j → ⊥) → page L (sets w (L * j + i) ys) c ≡ page L w c
-  page-sets-other w j i [] c h n = refl
-  page-sets-other w j i (y ∷ ys) c h n =
-      let e : suc (L * j + i) ≡ L * j + suc i = omega arith in
-      ap (λ m. page L (sets (set w (L * j + i) y) m ys) c) e
-      ∙ (page-sets-other (set w (L * j + i) y) j (suc i) ys c (omega arith) n ∙ page-set-other w j i y c (omega arith) n)
-
-  pub word-page : (w : List ℕ) (c i : ℕ) → i < L → word L w c i ≡ getD (page L w c) i 0
-  word-page w c i h = sym (getD-take L (drop (L * c) w) i 0 h ∙ getD-drop (L * c) w i 0)
 
 -- what a store to page j leaves
 pub record Wrote (L : ℕ) (w : List ℕ) (j : ℕ) (v : List ℕ) (w′ : List ℕ) : Type 0 where
@@ -98,7 +64,7 @@ module _ (L : ℕ) (big : 4 ≤ L) where
 
   module _ (wd : ℕ) (w : List ℕ) (c kd m e : ℕ) (ws u : List ℕ) (h : page L w c ≡ layout L kd m e ws) (n : length ws ≡ m * wd) (l : length u ≡ wd) where
     pub count-at : word L w c 1 ≡ m
-    count-at = word-page L w c 1 (omega arith) ∙ ap (λ p. getD p 1 0) h
+    count-at = sym (word-at L w c 1 (omega arith)) ∙ ap (λ p. getD p 1 0) h
 
     pub append : 4 + suc m * wd ≤ L → Wrote L w c (layout L kd (suc m) e (ws ++ u)) (appendIn L wd w c u)
     unfolding appendIn

@@ -14,10 +14,11 @@ use Rattle.kdb.specs.Tree.{Rec}
 use Rattle.kdb.specs.Cut.{isLeft, isRight}
 use Rattle.kdb.specs.Pages.{layout, wordsR, page}
 use Rattle.kdb.proofs.Lists.{bool, self, no-bit}
+use Rattle.kdb.proofs.Pages.{rec-length}
 use Rattle.steps.specs.Machine.{word, freshIn, appendIn}
 use Rattle.steps.specs.Split.{pointsIn}
 use Rattle.steps.proofs.Machine.{Wrote, append, fresh, length-layout}
-use Rattle.steps.proofs.Entry.{rec-key, rec-length, words-at, words-after, word-at}
+use Rattle.steps.proofs.Entry.{rec-key, words-at, words-after, word-in}
 use Rattle.steps.proofs.Held.{Keys}
 use Rattle.steps.proofs.Claim.{kinds, Free, free-same, Took}
 
@@ -157,7 +158,7 @@ module _ (L k d x : ℕ) (big : 4 ≤ L) (low : d < k) where
       let D′ : drop a src ≡ u ++ (gather wordsR rs ++ zs) = D ∙ append-assoc u (gather wordsR rs) zs in
       let e1 = words-at src a wd u (gather wordsR rs ++ zs) D′ n in
       let e2 = words-after src a wd u (gather wordsR rs ++ zs) D′ n in
-      let e3 : getD src (a + d) 0 ≡ keyAt d (q .key) = word-at src a wd u (gather wordsR rs ++ zs) D′ n d (omega arith) ∙ rec-key k q (fit .0) d low in
+      let e3 : getD src (a + d) 0 ≡ keyAt d (q .key) = word-in src a wd u (gather wordsR rs ++ zs) D′ n d (omega arith) ∙ rec-key k q (fit .0) d low in
       bool (ltb (keyAt d (q .key)) x)
       (λ t. let h = ltb→lt (keyAt d (q .key)) x t in
       let is : ltb (keyAt d (q .key)) x ≡ true = lt-ltb (keyAt d (q .key)) x h in
