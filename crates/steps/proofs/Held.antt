@@ -6,7 +6,7 @@ use Prim.Native.Nat.{ℕ, zero, suc, _+_, _*_, _≤_}
 use native.Mathlib.Omega.{arith}
 use lib.ListN.{length}
 use Rattle.kdb.specs.Lists.{many, Each, gather}
-use Rattle.kdb.specs.Tree.{Rec, Tree, leaf, node, Forest, fnil, fcons, root, pages, pagesF}
+use Rattle.kdb.specs.Tree.{Rec, Tree, leaf, node, Forest, fnil, fcons, root, boxes, pages, pagesF}
 use Rattle.kdb.specs.Pages.{points, regions, wordsR, wordsE, printPage}
 use Rattle.kdb.specs.Steps.{size, joinF}
 use Rattle.kdb.specs.Print.{ents}
@@ -96,3 +96,7 @@ words-join f g = ap (gather wordsE) (ents-join f g) ∙ gather-append wordsE (en
 pub many-join : (c : ℕ) (f g : Forest) → many c (pagesF (joinF f g)) ≡ many c (pagesF f) + many c (pagesF g)
 many-join c fnil g = omega arith
 many-join c (fcons b t f) g = omega (arith, many-append c (pages t) (pagesF (joinF f g)), many-append c (pages t) (pagesF f), many-join c f g)
+
+pub size-boxes : (f : Forest) → length (boxes f) ≡ size f
+size-boxes fnil = refl
+size-boxes (fcons b t f) = ap suc (size-boxes f)

@@ -3,3 +3,4 @@ pub mod Entry
 pub mod Held
 pub mod Claim
 pub mod Pass
+pub mod Split
