@@ -16,7 +16,7 @@ use Rattle.kdb.specs.Cut.{Lies, left, right, across, lies, isLeft, isRight}
 use Rattle.kdb.specs.Steps.{Two, TwoF, deal, split, splitF, afterForced, size}
 use Rattle.kdb.specs.Pages.{points, regions, layout, wordsR, wordsE, printPage, page}
 use Rattle.kdb.specs.Print.{ents}
-use Rattle.kdb.proofs.Lists.{self, many-append, only-most, pad-tail}
+use Rattle.kdb.proofs.Lists.{self, many-append, each-only, only-most, pad-tail}
 use Rattle.kdb.proofs.Tiling.{lies-case, keep, parts, part-length}
 use Rattle.kdb.proofs.Pages.{ent-length, word-at}
 use Rattle.steps.specs.Machine.{Passed, Claimed, word, freshIn, appendIn}
@@ -297,3 +297,211 @@ module _ (L N k d x R P : ℕ) (big : 4 ≤ L) (low : d < k) where
       (to-the-right below n b t f ih src zs a j r e w free mL wsL mR wsR at fit held fr once′)
       (λ y z. to-both below n b t f ih src zs a j r e w free mL wsL mR wsR at fit held fr once′ y z ok)
       cur
+
+-- the turns of parting and of the forced split
+module _ (L N k d x : ℕ) (below : ℕ → List ℕ → Claimed) (src : List ℕ) (m e j : ℕ) (w : List ℕ) where
+  points-none : claimIn L N 2 e w ≡ record { page = 0; words = w } → partPoints L N k d x src m e j w .page ≡ 0
+  unfolding partPoints
+  points-none h = rw h
+
+  regions-none : claimIn L N 1 e w ≡ record { page = 0; words = w } → partRegions L N k d x below src m e j w .page ≡ 0
+  unfolding partRegions
+  regions-none h = rw h
+
+  module _ (r : ℕ) (w1 : List ℕ) (l : 1 ≤ r) where
+    points-parted : claimIn L N 2 e w ≡ record { page = r; words = w1 } → partPoints L N k d x src m e j w ≡ record { page = r; words = pointsIn L k d x m src 4 j r (freshIn L w1 j 2 e) }
+    unfolding partPoints
+    points-parted h = rw (h, ne-eqb r 0 (λ z. omega arith))
+
+    regions-parted : claimIn L N 1 e w ≡ record { page = r; words = w1 }
+        → partRegions L N k d x below src m e j w ≡ through L N k d x r (entriesIn L k d x below m src 4 j r (freshIn L w1 j 1 e))
+    unfolding partRegions
+    regions-parted h = rw (h, ne-eqb r 0 (λ z. omega arith))
+
+module _ (L N k d x : ℕ) (j : ℕ) (w : List ℕ) (m e : ℕ) (p : word L w j 1 ≡ m) (q : word L w j 2 ≡ e) where
+  split-leaf : splitIn L N k d x 0 j w ≡ partPoints L N k d x (page L w j) m (afterForced k e) j w
+  unfolding splitIn
+  split-leaf = rw (p, q)
+
+  split-node : (n : ℕ) → splitIn L N k d x (suc n) j w ≡ partRegions L N k d x (splitIn L N k d x n) (page L w j) m (afterForced k e) j w
+  unfolding splitIn
+  split-node n = rw (p, q)
+
+-- the words of a page's head
+pub word-of : (L : ℕ) → 4 ≤ L → (w : List ℕ) (c kd m e : ℕ) (ws : List ℕ) → page L w c ≡ layout L kd m e ws → (i : ℕ) → i < 4 → word L w c i ≡ getD (layout L kd m e ws) i 0
+word-of L big w c kd m e ws h i l = sym (word-at L w c i (omega arith)) ∙ ap (λ v. getD v i 0) h
+
+module _ (L N k d x R P : ℕ) (big : 4 ≤ L) (low : d < k) (fitR : 4 + R * (2 * k + 1) ≤ L) (fitP : 4 + P * (k + 1) ≤ L) (pos : 1 ≤ N) where
+  -- the records of src, to a point page and a claimed one
+  pub parts-points : (p d₀ e₀ e m₀ : ℕ) (ws₀ : List ℕ) (rs : List Rec) (src zs w free : List ℕ) → Keys k rs → 4 + length (only (isLeft d x) rs) * (k + 1) ≤ L → 4 + length (only (isRight d x) rs) * (k + 1) ≤ L
+      → drop 4 src ≡ gather wordsR rs ++ zs → page L w p ≡ layout L 2 m₀ e₀ ws₀ → Free L N w free → ((c : ℕ) → many c (p ∷ []) + many c free ≤ 1)
+      → Outcome L N w (leaf p d₀ rs) free (split k d x (leaf p d₀ rs) e free) (partPoints L N k d x src (length rs) e p w)
+  parts-points p d₀ e₀ e m₀ ws₀ rs src zs w [] fit roomL roomR D h f once = points-none L N k d x (splitIn L N k d x 0) src (length rs) e p w (claim-none L N w 2 e pos f)
+  parts-points p d₀ e₀ e m₀ ws₀ rs src zs w (r ∷ free) fit roomL roomR D h f once =
+      let g = claim-some L N w 2 e r free big pos (omega arith) f in
+      let m = length rs in
+      let w0 = freshIn L w r 2 e in
+      let w1 = freshIn L w0 p 2 e in
+      let o = opened L N big w p r 2 m₀ e₀ e (k + 1) (length (only (isLeft d x) rs)) (length (only (isRight d x) rs)) ws₀ free w0 h g (λ c. omega (arith, once c)) roomL roomR in
+      let w2 = pointsIn L k d x m src 4 p r w1 in
+      let s = dealt L k d x big low rs src zs 4 p r e w1 0 [] 0 [] D fit (o .cursor) in
+      rw (points-parted L N k d x (splitIn L N k d x 0) src m e p w r w0 (g .low) (g .is))
+      (record {
+        right = refl;
+        more = g .low;
+        same = refl;
+        lt = s .left ∙ ap (λ i. layout L 2 i e (gather wordsR (only (isLeft d x) rs))) (zero-add (length (only (isLeft d x) rs)));
+        rt = s .right ∙ ap (λ i. layout L 2 i e (gather wordsR (only (isRight d x) rs))) (zero-add (length (only (isRight d x) rs)));
+        left-over = free-moved L N w1 w2 free p r (s .all) (λ c. omega (arith, once c)) (o .rest);
+        fewer = λ c. omega arith;
+        count = λ c. omega arith;
+        keep = λ c z. s .all .keep c (omega arith) ∙ o .keep c (omega arith);
+        long = s .all .long ∙ o .long;
+      })
+
+  -- the entries of src, to a region page and a claimed one
+  pub parts-regions : (n : ℕ) → Good L N k d x R P big low n (splitIn L N k d x n) → (p d₀ e₀ e m₀ : ℕ) (ws₀ : List ℕ) (f : Forest) (src zs w free : List ℕ) → FitsF k R P f n
+      → 4 + length (parts true d x (boxes f)) * (2 * k + 1) ≤ L → 4 + length (parts false d x (boxes f)) * (2 * k + 1) ≤ L → drop 4 src ≡ gather wordsE (ents f) ++ zs
+      → page L w p ≡ layout L 1 m₀ e₀ ws₀ → HoldsF L (page L w) f → Free L N w free → ((c : ℕ) → many c (pages (node p d₀ f)) + many c free ≤ 1)
+      → Outcome L N w (node p d₀ f) free (split k d x (node p d₀ f) e free) (partRegions L N k d x (splitIn L N k d x n) src (length (ents f)) e p w)
+  unfolding Pass
+  parts-regions n ih p d₀ e₀ e m₀ ws₀ f src zs w [] fit roomL roomR D h held fr once = regions-none L N k d x (splitIn L N k d x n) src (length (ents f)) e p w (claim-none L N w 1 e pos fr)
+  parts-regions n ih p d₀ e₀ e m₀ ws₀ f src zs w (r ∷ free) fit roomL roomR D h held fr once =
+      let g = claim-some L N w 1 e r free big pos (omega arith) fr in
+      let m = length (ents f) in
+      let w0 = freshIn L w r 1 e in
+      let w1 = freshIn L w0 p 1 e in
+      let o = opened L N big w p r 1 m₀ e₀ e (2 * k + 1) (length (parts true d x (boxes f))) (length (parts false d x (boxes f))) ws₀ free w0 h g (λ c. omega (arith, once c)) roomL roomR in
+      let v = entriesIn L k d x (splitIn L N k d x n) m src 4 p r w1 in
+      let s = pass L N k d x R P big low (splitIn L N k d x n) n ih f src zs 4 p r e w1 free 0 [] 0 [] D fit (o .cursor)
+      (frameF L (page L w) (page L w1) f (λ c i. o .keep c (omega (arith, once c))) held) (o .rest) (λ c. omega (arith, once c)) in
+      rw (regions-parted L N k d x (splitIn L N k d x n) src m e p w r w0 (g .low) (g .is)) (go (splitF k d x f free) v w1 s (o .keep) (o .long) (g .low))
+    where
+      go : (s : Option TwoF) (v : Passed) (w1 : List ℕ) → OutcomeF L N w1 f free p r e 0 [] 0 [] s v → ((c : ℕ) → bit (eqb c p) + bit (eqb c r) ≡ 0 → page L w1 c ≡ page L w c) → length w1 ≡ length w → 1 ≤ r
+          → Outcome L N w (node p d₀ f) (r ∷ free) (andThen s (λ h. some (record { lt = node p e (h .lt); rt = node r e (h .rt); free = h .free }))) (through L N k d x r v)
+      go none v w1 s keep long more = rw s
+      go (some a) v w1 s keep long more =
+          let z : Two = record { lt = node p e (a .lt); rt = node r e (a .rt); free = a .free } in
+          let u : Splits L N w (node p d₀ f) (r ∷ free) z (record { page = r; words = v .words }) =
+          record {
+            right = refl;
+            more = more;
+            same = refl;
+            lt = (s .left ∙ ap (λ i. layout L 1 i e (gather wordsE (ents (a .lt)))) (zero-add (length (ents (a .lt)))), s .lt);
+            rt = (s .right ∙ ap (λ i. layout L 1 i e (gather wordsE (ents (a .rt)))) (zero-add (length (ents (a .rt)))), s .rt);
+            left-over = s .left-over;
+            fewer = λ c. omega (arith, s .fewer c);
+            count = λ c. omega (arith, s .count c);
+            keep = λ c i. s .keep c (omega arith) ∙ keep c (omega arith);
+            long = s .long ∙ long;
+          } in
+          let b : record { page = r; words = v .words } ≡ through L N k d x r v = rw (s .ok) in
+          subst (λ y. Splits L N w (node p d₀ f) (r ∷ free) z y) b u
+
+  on-leaf : (p e : ℕ) (rs : List Rec) (w free : List ℕ) → (length rs ≤ P) × Keys k rs → page L w p ≡ printPage L (points e rs) → Free L N w free → ((c : ℕ) → many c (p ∷ []) + many c free ≤ 1)
+      → Outcome L N w (leaf p e rs) free (split k d x (leaf p e rs) (afterForced k e) free) (splitIn L N k d x 0 p w)
+  on-leaf p e rs w free fit held f once =
+      let room : (n : ℕ) → n ≤ length rs → 4 + n * (k + 1) ≤ L = λ n h. let l : n ≤ P = omega (arith, fit .0) in omega (arith, mul-le-mul-right (k + 1) l, fitP) in
+      let D = ap (drop 4) held ∙ pad-tail (L - 4) (gather wordsR rs) (omega (arith, records-length k rs (fit .1), room (length rs) (omega arith))) in
+      let at = word-of L big w p 2 (length rs) e (gather wordsR rs) held in
+      rw (split-leaf L N k d x p w (length rs) e (at 1 (omega arith)) (at 2 (omega arith)))
+      (parts-points p e e (afterForced k e) (length rs) (gather wordsR rs) rs (page L w p) (pad (L - 4 - length (gather wordsR rs)) []) w free (fit .1) (room _ (only-most (isLeft d x) rs)) (room _ (only-most (isRight d x) rs)) D held f once)
+
+  on-node : (n : ℕ) → Good L N k d x R P big low n (splitIn L N k d x n) → (p e : ℕ) (f : Forest) (w free : List ℕ) → (size f ≤ R) × FitsF k R P f n
+      → Holds L (page L w) (node p e f) → Free L N w free → ((c : ℕ) → many c (pages (node p e f)) + many c free ≤ 1)
+      → Outcome L N w (node p e f) free (split k d x (node p e f) (afterForced k e) free) (splitIn L N k d x (suc n) p w)
+  on-node n ih p e f w free fit held fr once =
+      let room : (i : ℕ) → i ≤ size f → 4 + i * (2 * k + 1) ≤ L = λ i l. let u : i ≤ R = omega (arith, fit .0) in omega (arith, mul-le-mul-right (2 * k + 1) u, fitR) in
+      let ws = gather wordsE (ents f) in
+      let D = ap (drop 4) (held .0) ∙ pad-tail (L - 4) ws (omega (arith, entries-length k R P n f (fit .1), room (length (ents f)) (omega (arith, size-ents f)))) in
+      let at = word-of L big w p 1 (length (ents f)) e ws (held .0) in
+      rw (split-node L N k d x p w (length (ents f)) e (at 1 (omega arith)) (at 2 (omega arith)) n)
+      (parts-regions n ih p e e (afterForced k e) (length (ents f)) ws f (page L w p) (pad (L - 4 - length ws) []) w free (fit .1)
+      (room _ (omega (arith, parts-most true d x (boxes f), size-boxes f))) (room _ (omega (arith, parts-most false d x (boxes f), size-boxes f))) D (held .0) (held .1) fr once)
+
+  -- the forced split in place is the tree's
+  pub splits : (n : ℕ) → Good L N k d x R P big low n (splitIn L N k d x n)
+  splits zero = record { good = go }
+    where
+      go : (t : Tree) (w free : List ℕ) → Fits k R P t 0 → Holds L (page L w) t → Free L N w free → ((c : ℕ) → many c (pages t) + many c free ≤ 1)
+          → Outcome L N w t free (split k d x t (afterForced k (dom t)) free) (splitIn L N k d x 0 (root t) w)
+      go (leaf p e rs) w free fit held f once = on-leaf p e rs w free (fit .1, fit .2) held f once
+      go (node p e h) w free fit held f once = absurd fit
+  splits (suc n) = record { good = go (splits n) }
+    where
+      go : Good L N k d x R P big low n (splitIn L N k d x n) → (t : Tree) (w free : List ℕ) → Fits k R P t (suc n) → Holds L (page L w) t → Free L N w free → ((c : ℕ) → many c (pages t) + many c free ≤ 1)
+          → Outcome L N w t free (split k d x t (afterForced k (dom t)) free) (splitIn L N k d x (suc n) (root t) w)
+      go ih (leaf p e rs) w free fit held f once = absurd (omega (arith, fit .0))
+      go ih (node p e h) w free fit held f once = on-node n ih p e h w free fit held f once
+
+-- a split keeps what the words hang on
+abbrev pub All : {A : Type 0} → (A → Type 0) → Option A → Type 0
+All Q none = Unit {0}
+All Q (some a) = Q a
+
+module _ (k R P d x : ℕ) where
+  abbrev pub Both : ℕ → Two → Type 0
+  Both n h = Fits k R P (h .lt) n × Fits k R P (h .rt) n
+
+  abbrev Sized : ℕ → ℕ → ℕ → TwoF → Type 0
+  Sized n l r h = FitsF k R P (h .lt) n × FitsF k R P (h .rt) n × (size (h .lt) ≡ l) × (size (h .rt) ≡ r)
+
+  abbrev BothF : ℕ → Forest → TwoF → Type 0
+  BothF n f h = Sized n (length (parts true d x (boxes f))) (length (parts false d x (boxes f))) h
+
+  node-both : (n p q e : ℕ) (f : Forest) → length (parts true d x (boxes f)) ≤ R → length (parts false d x (boxes f)) ≤ R → (o : Option TwoF) → All (BothF n f) o
+      → All (Both (suc n)) (andThen o (λ h. some (record { lt = node p e (h .lt); rt = node q e (h .rt); free = h .free })))
+  node-both n p q e f l r none h = tt
+  node-both n p q e f l r (some a) h = ((omega (arith, h .2), h .0), (omega (arith, h .3), h .1))
+
+  module _ (b : Box) (t : Tree) (f : Forest) (n : ℕ) (h : FitsF k R P (fcons b t f) n) (l r : ℕ) where
+    fit-left : (o : Option TwoF) → All (Sized n l r) o → All (Sized n (suc l) r) (andThen o (λ v. some (record { lt = fcons b t (v .lt); rt = v .rt; free = v .free })))
+    fit-left none i = tt
+    fit-left (some a) i = ((h .0, h .1, i .0), i .1, ap suc (i .2), i .3)
+
+    fit-right : (o : Option TwoF) → All (Sized n l r) o → All (Sized n l (suc r)) (andThen o (λ v. some (record { lt = v .lt; rt = fcons b t (v .rt); free = v .free })))
+    fit-right none i = tt
+    fit-right (some a) i = (i .0, (h .0, h .1, i .1), i .2, ap suc (i .3))
+
+    fit-two : (s : Two) → Both n s → (o : Option TwoF) → All (Sized n l r) o
+        → All (Sized n (suc l) (suc r)) (andThen o (λ v. some (record { lt = fcons (leftPart d x b) (s .lt) (v .lt); rt = fcons (rightPart d x b) (s .rt) (v .rt); free = v .free })))
+    fit-two s g none i = tt
+    fit-two s g (some a) i = ((part-length true d x b ∙ h .0, g .0, i .0), (part-length false d x b ∙ h .0, g .1, i .1), ap suc (i .2), ap suc (i .3))
+
+    fit-across : (s : Option Two) → All (Both n) s → (v : List ℕ → Option TwoF) → ((free : List ℕ) → All (Sized n l r) (v free))
+        → All (Sized n (suc l) (suc r)) (andThen s (λ a. andThen (v (a .free)) (λ z. some (record { lt = fcons (leftPart d x b) (a .lt) (z .lt); rt = fcons (rightPart d x b) (a .rt) (z .rt); free = z .free }))))
+    fit-across none g v i = tt
+    fit-across (some s) g v i = fit-two s g (v (s .free)) (i (s .free))
+
+  mutual
+    pub split-fits : (t : Tree) (n e : ℕ) (free : List ℕ) → Fits k R P t n → All (Both n) (split k d x t e free)
+    split-fits (leaf p e₀ rs) n e [] h = tt
+    split-fits (leaf p e₀ rs) n e (q ∷ free) h = (
+      (h .0, omega (arith, only-most (isLeft d x) rs, h .1), each-only (λ r. length (r .key) ≡ k) (isLeft d x) rs (h .2)),
+      (h .0, omega (arith, only-most (isRight d x) rs, h .1), each-only (λ r. length (r .key) ≡ k) (isRight d x) rs (h .2)),
+    )
+    split-fits (node p e₀ f) zero e free h = absurd h
+    split-fits (node p e₀ f) (suc n) e [] h = tt
+    split-fits (node p e₀ f) (suc n) e (q ∷ free) h =
+        node-both n p q e f (omega (arith, parts-most true d x (boxes f), size-boxes f, h .0)) (omega (arith, parts-most false d x (boxes f), size-boxes f, h .0)) (splitF k d x f free) (splitF-fits f n free (h .1))
+
+    splitF-fits : (f : Forest) (n : ℕ) (free : List ℕ) → FitsF k R P f n → All (BothF n f) (splitF k d x f free)
+    splitF-fits fnil n free h = (tt, tt, refl, refl)
+    splitF-fits (fcons b t f) n free h =
+        let l = length (parts true d x (boxes f)) in
+        let r = length (parts false d x (boxes f)) in
+        let Q : Lies → Type 0 = λ z. All (Sized n (length (keep true z b (leftPart d x b) (parts true d x (boxes f)))) (length (keep false z b (rightPart d x b) (parts false d x (boxes f)))))
+        (deal k d x z b t (split k d x t (afterForced k (dom t)) free) (splitF k d x f) free) in
+        lies-case Q d x b
+        (λ _. fit-left b t f n h l r (splitF k d x f free) (splitF-fits f n free (h .2)))
+        (λ _ _. fit-right b t f n h l r (splitF k d x f free) (splitF-fits f n free (h .2)))
+        (λ _ _. fit-across b t f n h l r (split k d x t (afterForced k (dom t)) free) (split-fits t n (afterForced k (dom t)) free (h .1)) (splitF k d x f) (λ free. splitF-fits f n free (h .2)))
+
+  -- an overfull page that the cut leaves within its limits
+  pub leaf-over : (p e₀ e : ℕ) (rs : List Rec) (free : List ℕ) → Keys k rs → length (only (isLeft d x) rs) ≤ P → length (only (isRight d x) rs) ≤ P → All (Both 0) (split k d x (leaf p e₀ rs) e free)
+  leaf-over p e₀ e rs [] h l r = tt
+  leaf-over p e₀ e rs (q ∷ free) h l r = ((refl, l, each-only (λ r. length (r .key) ≡ k) (isLeft d x) rs h), (refl, r, each-only (λ r. length (r .key) ≡ k) (isRight d x) rs h))
+
+  pub node-over : (p e₀ e n : ℕ) (f : Forest) (free : List ℕ) → FitsF k R P f n → length (parts true d x (boxes f)) ≤ R → length (parts false d x (boxes f)) ≤ R → All (Both (suc n)) (split k d x (node p e₀ f) e free)
+  node-over p e₀ e n f [] h l r = tt
+  node-over p e₀ e n f (q ∷ free) h l r = node-both n p q e f l r (splitF k d x f free) (splitF-fits f n free h)
