@@ -371,6 +371,15 @@ tally-map g f (a ∷ l) = ap (λ n. bit (g (f a)) + n) (tally-map g f l)
 pub ne-of-bit : (c j : ℕ) → bit (eqb c j) ≡ 0 → (c ≡ j → ⊥)
 ne-of-bit c j h e = let g = self j in let u : bit (eqb j j) ≡ 0 = subst (λ i. bit (eqb i j) ≡ 0) e h in absurd (omega arith)
 
+-- a choice by a test whose value is known
+pub choice-true {ℓ} : {A : Type ℓ} (s : Bool) (y z : A) → s ≡ true → elim s as (λ _. A) [ true ↦ y | false ↦ z ] ≡ y
+choice-true true y z e = refl
+choice-true false y z e = absurd (of-true false e)
+
+pub choice-false {ℓ} : {A : Type ℓ} (s : Bool) (y z : A) → s ≡ false → elim s as (λ _. A) [ true ↦ y | false ↦ z ] ≡ z
+choice-false true y z e = absurd (of-false true e)
+choice-false false y z e = refl
+
 -- a count is 0, or not
 pub none-of : (n : ℕ) → (1 ≤ n → ⊥) → n ≡ 0
 none-of zero h = refl

@@ -4,3 +4,4 @@ pub mod Held
 pub mod Claim
 pub mod Pass
 pub mod Split
+pub mod Grow
