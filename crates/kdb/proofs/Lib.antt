@@ -6,4 +6,6 @@ pub mod Pages
 pub mod Views
 pub mod Stands
 pub mod Print
+pub mod Pool
+pub mod Own
 pub mod Cases

@@ -4,9 +4,9 @@ use mathlib.Core.List.{List, [], _∷_, _++_, map, append-assoc, append-nil}
 use mathlib.Core.Path.{_≡_, refl, sym, ap, ap₂, _∙_, subst}
 use Prim.Native.Nat.{ℕ, zero, suc, _+_, _-_, _*_, _<_, _≤_, min}
 use native.Mathlib.Omega.{arith}
-use native.Mathlib.Nat.{zero-add, suc-add, zero-mul, suc-mul}
+use native.Mathlib.Nat.{zero-mul, suc-mul, zero-add, suc-add}
 use lib.Dec.{T, T-not, leb, ltb, eqb, leb→le, le→leb, ltb→lt, lt→ltb, nleb→lt, nltb→le, eqb→eq, eqb-refl}
-use lib.ListN.{length, take, drop, getD, set, length-append}
+use lib.ListN.{length, take, drop, getD, length-append, set}
 use lib.Seq.{sets}
 use borrow.Author.Tests.{eq-eqb, ne-eqb}
 use Rattle.kdb.specs.Lists.{bit, only, tally, every, any, Each, gather, sum, many, upFrom, pad, same}
@@ -366,6 +366,22 @@ module _ {ℓ} {A : Type ℓ} where
 pub tally-map {ℓ κ} : {A : Type ℓ} {B : Type κ} (g : B → Bool) (f : A → B) (l : List A) → tally g (map f l) ≡ tally (λ a. g (f a)) l
 tally-map g f [] = refl
 tally-map g f (a ∷ l) = ap (λ n. bit (g (f a)) + n) (tally-map g f l)
+
+-- a number of the n from a on, and what is counted in lists joined
+pub many-up : (n a i : ℕ) → a ≤ i → i < a + n → 1 ≤ many i (upFrom n a)
+many-up zero a i h g = absurd (omega arith)
+many-up (suc n) a i h g =
+    bool (eqb i a) (λ t. omega (arith, to-bit (eqb i a) t))
+    (λ t. let ne : i ≡ a → ⊥ = λ e. T-not (eqb i a) t (of-true (eqb i a) (eq-eqb i a e)) in
+    omega (arith, many-up n (suc a) i (omega arith) (omega arith)))
+
+pub tally-gather {ℓ} : {A : Type ℓ} (h : A → Bool) (g : ℕ → List A) (l : List ℕ) (i : ℕ) → 1 ≤ many i l → 1 ≤ tally h (g i) → 1 ≤ tally h (gather g l)
+tally-gather h g [] i k m = absurd (omega arith)
+tally-gather h g (a ∷ l) i k m =
+    let e = tally-append h (g a) (gather g l) in
+    bool (eqb i a)
+    (λ t. let q : tally h (g i) ≡ tally h (g a) = ap (λ j. tally h (g j)) (eqb→eq i a t) in omega arith)
+    (λ t. omega (arith, tally-gather h g l i (omega (arith, no-bit (eqb i a) (T-not (eqb i a) t))) m))
 
 -- pages' words: stores, padding, entries joined, and numbers that pass a test
 pub ne-of-bit : (c j : ℕ) → bit (eqb c j) ≡ 0 → (c ≡ j → ⊥)

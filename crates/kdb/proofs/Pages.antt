@@ -1,18 +1,17 @@
 -- Pages printed and read back. `read-page`: a page that fits is read back from its words. `pool-ext`: a pool is its pages. The laws of
 -- `page` here are the only ones that know at which word a page begins.
-use mathlib.Core.Bool.{Bool, true, false, cond}
 use mathlib.Core.List.{List, [], _∷_, _++_, map, append-assoc}
-use mathlib.Core.Path.{_≡_, refl, sym, ap, ap₂, _∙_, subst}
-use Prim.Native.Nat.{ℕ, zero, suc, _+_, _-_, _*_, _/_, _<_, _≤_, min}
+use mathlib.Core.Path.{_≡_, refl, sym, ap, ap₂, _∙_}
+use Prim.Native.Nat.{ℕ, zero, suc, _+_, _-_, _*_, _<_, _≤_}
 use native.Mathlib.Omega.{arith}
-use native.Mathlib.Nat.{mul-suc, mul-zero, suc-mul, zero-mul, add-zero, mul-le-mul-left, le-div-iff-mul-le}
-use lib.Dec.{T, leb, leb→le, nleb→lt}
+use native.Mathlib.Nat.{mul-suc, mul-zero, suc-mul, add-zero, mul-le-mul-left, le-div-iff-mul-le}
+use lib.Dec.{leb, leb→le, nleb→lt}
 use lib.ListN.{length, take, drop, getD, set, length-append, length-take, length-drop, take-append-drop, length-map}
 use lib.Seq.{sets, take-at, drop-at, getD-at, drop-drop, take-take, getD-take, getD-drop, take-set-lt, take-set-le, drop-set-add, drop-set-lt, length-take-le}
 use Rattle.kdb.specs.Lists.{Each, gather, pad, upFrom}
-use Rattle.kdb.specs.Box.{Side, Box, sides}
+use Rattle.kdb.specs.Box.{Box, sides}
 use Rattle.kdb.specs.Tree.{Rec}
-use Rattle.kdb.specs.Pages.{Ent, Page, blank, points, regions, pointsPer, regionsPer, recsIn, entsIn, wordsR, wordsE, layout, printPage, readRecs, readEnts, readPage, page}
+use Rattle.kdb.specs.Pages.{Ent, Page, blank, points, regions, pointsPer, regionsPer, recsIn, entsIn, wordsR, wordsE, printPage, readRecs, readEnts, readPage, page}
 use Rattle.kdb.proofs.Lists.{bool, each-map, length-gather, length-pad, pad-tail}
 
 -- n entries of d words each, one read by f from its first word on
@@ -87,12 +86,6 @@ highs b = map (λ s. s .hi) b
 sides-back : (b : Box) → sides (lows b) (highs b) ≡ b
 sides-back [] = refl
 sides-back (s ∷ b) = ap (λ c. s ∷ c) (sides-back b)
-
-pub sides-length : (k : ℕ) (ls us : List ℕ) → length ls ≡ k → length us ≡ k → length (sides ls us) ≡ k
-sides-length k [] us h g = h
-sides-length zero (l ∷ ls) us h g = absurd (omega arith)
-sides-length (suc k) (l ∷ ls) [] h g = absurd (omega arith)
-sides-length (suc k) (l ∷ ls) (u ∷ us) h g = ap suc (sides-length k ls us (omega arith) (omega arith))
 
 pub both-length : (k : ℕ) (b : Box) → length b ≡ k → length (lows b ++ highs b) ≡ 2 * k
 both-length k b h = length-append (lows b) (highs b) ∙ omega (arith, length-map b (λ s. s .lo), length-map b (λ s. s .hi), h)

@@ -1,8 +1,8 @@
 -- A well-formed state printed and read back. `stands`: it stands in the words printed; `read-state`: those words say it again;
 -- `printed-injective`: no two such states are printed alike.
-use mathlib.Core.Bool.{Bool, true, false, _&&_, cond}
-use mathlib.Core.List.{List, [], _∷_, _++_, map}
-use mathlib.Core.Option.{Option, none, some}
+use mathlib.Core.Bool.{false, _&&_, cond}
+use mathlib.Core.List.{List, [], _∷_}
+use mathlib.Core.Option.{none, some}
 use mathlib.Core.Path.{_≡_, refl, sym, ap, ap₂, _∙_, subst}
 use Prim.Native.Nat.{ℕ, zero, suc, _+_, _-_, _*_, _/_, _<_, _≤_}
 use native.Mathlib.Omega.{arith}
@@ -10,16 +10,16 @@ use native.Mathlib.Nat.{mul-suc, mul-zero, mul-div-right}
 use lib.Dec.{T, T-not, leb, ltb, eqb, leb→le, ltb→lt, le→leb, lt→ltb}
 use lib.ListN.{length, getD, length-append}
 use borrow.Author.Tests.{ne-eqb}
-use Rattle.kdb.specs.Lists.{Each, many, every, gather, upFrom, pad}
+use Rattle.kdb.specs.Lists.{Each, every, gather, upFrom, pad}
 use Rattle.kdb.specs.Box.{Box, whole, within, solid}
-use Rattle.kdb.specs.Tree.{Rec, Tree, leaf, node, Forest, fnil, fcons, State, root, boxes, levels, pages, records, pagesOf, recordsOf}
+use Rattle.kdb.specs.Tree.{Rec, Tree, leaf, node, Forest, fnil, fcons, State, root, boxes, levels, pages, pagesOf, recordsOf}
 use Rattle.kdb.specs.Shape.{PointPage, RegionPage, Shaped, ShapedF, Numbered, WellFormed}
-use Rattle.kdb.specs.Pages.{Ent, Page, blank, points, regions, regionsPer, pointsPer, domain, recsIn, entsIn, printPage, readPage, page}
-use Rattle.kdb.specs.Pool.{domains, rootAt, levelsAt, countAt, pagesIn, view, reachedFrom}
+use Rattle.kdb.specs.Pages.{blank, points, regions, regionsPer, pointsPer, printPage, readPage, page}
+use Rattle.kdb.specs.Pool.{domains, rootAt, levelsAt, countAt, pagesIn, view}
 use Rattle.kdb.specs.Print.{ents, pageOf, pageAt, header, forest, printed, treeAt, stateOf}
-use Rattle.kdb.proofs.Lists.{bool, and-l, and-r, each-every, getD-pad, length-pad, is-true, is-false, and-i, Ranged, few}
+use Rattle.kdb.proofs.Lists.{bool, and-l, and-r, each-every, length-pad, is-true, is-false, and-i, Ranged, few}
 use Rattle.kdb.proofs.Pages.{FitsPage, read-page, page-length, page-first, page-next, page-gather, length-pages, word-at}
-use Rattle.kdb.proofs.Views.{Seen, SeenF, seen-own, page-out, among, page-case, boxes-ents, ents-boxes, Under, whole-under, under-key, under-length, tiles-under, levels-pages}
+use Rattle.kdb.proofs.Views.{Seen, SeenF, seen-own, page-out, among, page-case, ents-boxes, Under, whole-under, under-key, under-length, tiles-under, levels-pages}
 use Rattle.kdb.proofs.Stands.{rootOf, levelsOf, Stands}
 
 -- every page of a well-formed state fits
@@ -86,6 +86,16 @@ module _ (k R P L : ℕ) (w : List ℕ) where
     seen-forest fnil n s e = refl
     seen-forest (fcons b t f) n s e = ap₂ (fcons b) (seen-tree t n b (s .0) (e .0)) (seen-forest f n (s .1) (e .1))
 
+-- the header's words: five, then zeros
+pub header-words : (L k N : ℕ) (s : State) → 5 ≤ L → pad L (header k N s) ≡ k ∷ N ∷ rootOf s ∷ levelsOf s ∷ length (recordsOf s) ∷ pad (L - 5) []
+header-words L k N s big =
+    let e : L ≡ suc (suc (suc (suc (suc (L - 5))))) = omega arith in
+    ap (λ n. pad n (header k N s)) e ∙ go s
+  where
+    go : (s : State) → pad (suc (suc (suc (suc (suc (L - 5)))))) (header k N s) ≡ k ∷ N ∷ rootOf s ∷ levelsOf s ∷ length (recordsOf s) ∷ pad (L - 5) []
+    go none = refl
+    go (some t) = refl
+
 -- the words printed
 module _ (L k N : ℕ) (s : State) (big : 5 ≤ L) (wf : WellFormed L k N s) where
   abbrev w : List ℕ
@@ -112,38 +122,22 @@ module _ (L k N : ℕ) (s : State) (big : 5 ≤ L) (wf : WellFormed L k N s) whe
       ∙ (page-gather L (λ c. printPage L (pageAt s c)) (λ c. page-length L (pageAt s c) (omega arith)) (N - 1) 1 c (omega arith) ∙ ap (λ j. printPage L (pageAt s j)) e)
 
   -- the header's words
-  pub print-word : (i : ℕ) → i < 5 → getD w i 0 ≡ getD (header k N s) i 0
+  pub print-word : (i : ℕ) → i < 5 → getD w i 0 ≡ getD (k ∷ N ∷ rootOf s ∷ levelsOf s ∷ length (recordsOf s) ∷ pad (L - 5) []) i 0
   print-word i h =
       let e : L * 0 + i ≡ i = omega (arith, mul-zero L) in
-      sym (word-at L w 0 i (omega arith) ∙ ap (λ m. getD w m 0) e) ∙ (ap (λ l. getD l i 0) print-header ∙ getD-pad L (header k N s) i (omega arith))
+      sym (word-at L w 0 i (omega arith) ∙ ap (λ m. getD w m 0) e) ∙ ap (λ l. getD l i 0) (print-header ∙ header-words L k N s big)
 
   pub print-domains : domains w ≡ k
-  print-domains = print-word 0 (omega arith) ∙ first s
-    where
-      first : (s : State) → getD (header k N s) 0 0 ≡ k
-      first none = refl
-      first (some t) = refl
+  print-domains = print-word 0 (omega arith)
 
   pub print-root : rootAt w ≡ rootOf s
-  print-root = print-word 2 (omega arith) ∙ at s
-    where
-      at : (s : State) → getD (header k N s) 2 0 ≡ rootOf s
-      at none = refl
-      at (some t) = refl
+  print-root = print-word 2 (omega arith)
 
   pub print-levels : levelsAt w ≡ levelsOf s
-  print-levels = print-word 3 (omega arith) ∙ at s
-    where
-      at : (s : State) → getD (header k N s) 3 0 ≡ levelsOf s
-      at none = refl
-      at (some t) = refl
+  print-levels = print-word 3 (omega arith)
 
   pub print-count : countAt w ≡ length (recordsOf s)
-  print-count = print-word 4 (omega arith) ∙ at s
-    where
-      at : (s : State) → getD (header k N s) 4 0 ≡ length (recordsOf s)
-      at none = refl
-      at (some t) = refl
+  print-count = print-word 4 (omega arith)
 
   pub print-views : (j : ℕ) → view L w j ≡ pageAt s j
   print-views j =

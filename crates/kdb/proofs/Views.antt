@@ -1,21 +1,21 @@
 -- A tree and its pages. `Seen v t`: the pages v, by number, are the tree's. `page-case`: what holds of a free page and of every page of a
 -- shaped tree holds of page c, for every c. `sum-records`: the records on all pages are the tree's.
-use mathlib.Core.Bool.{Bool, true, false, _||_, not, cond}
+use mathlib.Core.Bool.{Bool, true, false, cond}
 use mathlib.Core.List.{List, [], _∷_, _++_, map}
 use mathlib.Core.Path.{_≡_, refl, sym, ap, ap₂, _∙_, subst}
-use Prim.Native.Nat.{ℕ, zero, suc, _+_, _-_, _<_, _≤_}
+use Prim.Native.Nat.{ℕ, zero, suc, _+_, _≤_}
 use native.Mathlib.Omega.{arith}
-use lib.Dec.{T, T-not, ltb, eqb, eqb→eq, lt→ltb, ltb→lt, leb, leb→le}
-use lib.ListN.{length, length-append, length-map}
-use borrow.Author.Tests.{eq-eqb, ne-eqb}
+use lib.Dec.{T, ltb, eqb, eqb→eq, lt→ltb, ltb→lt}
+use lib.ListN.{length, length-append}
+use borrow.Author.Tests.{eq-eqb}
 use Rattle.kdb.specs.Lists.{bit, every, any, Each, sum, many, upFrom}
 use Rattle.kdb.specs.Box.{∞, Box, Key, whole, within, solid}
 use Rattle.kdb.specs.Tiling.{Tiles}
-use Rattle.kdb.specs.Tree.{Rec, Tree, leaf, node, Forest, fnil, fcons, root, boxes, levels, levelsF, pages, pagesF, records, recordsF}
+use Rattle.kdb.specs.Tree.{Rec, Tree, leaf, node, Forest, fnil, fcons, boxes, levels, levelsF, pages, pagesF, records, recordsF}
 use Rattle.kdb.specs.Shape.{PointPage, RegionPage, Shaped, ShapedF}
-use Rattle.kdb.specs.Pages.{Ent, Page, blank, points, regions, recsIn, inUse}
+use Rattle.kdb.specs.Pages.{Page, blank, points, regions, recsIn, inUse}
 use Rattle.kdb.specs.Print.{ents, orPage, pageOf, pageOfF}
-use Rattle.kdb.proofs.Lists.{bool, and-l, and-r, and-i, or-l, or-r, self, no-bit, to-bit, is-false, of-true, many-append, cond-case, some-many, sum-same, sum-add, sum-none, sum-hit, Ranged}
+use Rattle.kdb.proofs.Lists.{bool, and-l, and-r, and-i, or-l, or-r, self, to-bit, is-false, of-true, many-append, cond-case, some-many, sum-same, sum-add, sum-none, sum-hit, Ranged}
 use Rattle.kdb.proofs.Box.{within-i, within-e}
 use Rattle.kdb.proofs.Tiling.{low, low-in}
 
@@ -37,12 +37,7 @@ pub ents-boxes : (f : Forest) → length (ents f) ≡ length (boxes f)
 ents-boxes fnil = refl
 ents-boxes (fcons b t f) = ap suc (ents-boxes f)
 
-or-blank : (a : Page) → orPage a blank ≡ a
-or-blank blank = refl
-or-blank (points d rs) = refl
-or-blank (regions d es) = refl
-
-or-first : (a b : Page) → T (inUse a) → orPage a b ≡ a
+pub or-first : (a b : Page) → T (inUse a) → orPage a b ≡ a
 or-first blank b h = absurd h
 or-first (points d rs) b h = refl
 or-first (regions d es) b h = refl
@@ -53,7 +48,7 @@ or-case Q (points d rs) b h g = h
 or-case Q (regions d es) b h g = h
 
 -- a number that is no page of the tree
-miss : (c p m : ℕ) → bit (eqb c p) + m ≡ 0 → eqb c p ≡ false
+pub miss : (c p m : ℕ) → bit (eqb c p) + m ≡ 0 → eqb c p ≡ false
 miss c p m h = go (eqb c p) h
   where
     go : (t : Bool) → bit t + m ≡ 0 → t ≡ false
@@ -72,7 +67,7 @@ mutual
       rw (page-out t c (omega arith)) (page-outF f c (omega arith))
 
 -- by cases on whether c is p
-at {ℓ} : {C : Type ℓ} (c p : ℕ) → (c ≡ p → C) → (eqb c p ≡ false → C) → C
+pub at {ℓ} : {C : Type ℓ} (c p : ℕ) → (c ≡ p → C) → (eqb c p ≡ false → C) → C
 at c p f g = bool (eqb c p) (λ t. f (eqb→eq c p t)) (λ t. g (is-false (eqb c p) t))
 
 -- by cases on whether c is in the list
