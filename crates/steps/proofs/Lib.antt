@@ -5,3 +5,4 @@ pub mod Claim
 pub mod Pass
 pub mod Split
 pub mod Grow
+pub mod Stood
