@@ -6,3 +6,4 @@ pub mod Pass
 pub mod Split
 pub mod Grow
 pub mod Stood
+pub mod Place
