@@ -1,0 +1,9 @@
+pub mod Machine
+pub mod Entry
+pub mod Held
+pub mod Claim
+pub mod Pass
+pub mod Split
+pub mod Grow
+pub mod Stood
+pub mod Place
