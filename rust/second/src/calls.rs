@@ -153,17 +153,13 @@ pub fn list_walk(
         Err(refusal) => return (Err(refusal), Vec::new()),
         Ok(head) => head,
     };
-    let (outcome, read) = walk::list(pool, &head, window);
-    match outcome {
-        Err(refusal) => {
-            answer.fill(0);
-            (Err(refusal), read)
+    let (outcome, locations, read) = walk::list(pool, &head, window);
+    if outcome.is_ok() {
+        for (slot, location) in answer.iter_mut().zip(locations) {
+            *slot = location;
         }
-        Ok((listed, locations)) => {
-            for (slot, location) in answer.iter_mut().zip(locations) {
-                *slot = location;
-            }
-            (Ok(listed), read)
-        }
+    } else {
+        answer.fill(0);
     }
+    (outcome, read)
 }

@@ -26,12 +26,12 @@ pub struct NoneFree;
 
 /// What became of a node in which a record was placed.
 enum Placed {
-    Whole(Box<Node>),
+    Whole(Node),
     Halves {
         domain: usize,
         cut: u32,
-        left: Box<Node>,
-        right: Box<Node>,
+        left: Node,
+        right: Node,
     },
 }
 
@@ -59,12 +59,12 @@ impl Pool {
             claims: Vec::new(),
         };
         let root = match self.root {
-            None => Box::new(Node::Points(PointPage {
+            None => Node::Points(PointPage {
                 number: pages.claim(Reason::First)?,
                 domain: 0,
                 records: vec![record],
-            })),
-            Some(root) => match pages.put(root, record)? {
+            }),
+            Some(root) => match pages.put(*root, record)? {
                 Placed::Whole(root) => root,
                 Placed::Halves {
                     domain,
@@ -73,27 +73,21 @@ impl Pool {
                     right,
                 } => {
                     let (left_region, right_region) = Region::whole(k).split(domain, cut);
-                    Box::new(Node::Regions(RegionPage {
+                    Node::Regions(RegionPage {
                         number: pages.claim(Reason::Root)?,
                         domain: 0,
                         entries: vec![
-                            Entry {
-                                region: left_region,
-                                child: left,
-                            },
-                            Entry {
-                                region: right_region,
-                                child: right,
-                            },
+                            Entry::new(left_region, left),
+                            Entry::new(right_region, right),
                         ],
-                    }))
+                    })
                 }
             },
         };
         let pool = Pool {
             k,
             n,
-            root: Some(root),
+            root: Some(Box::new(root)),
         };
         Ok((pool, pages.claims))
     }
@@ -124,8 +118,8 @@ impl Pages {
     }
 
     /// I2 to I5: puts the record where it belongs below this node, then splits the node if it is overfull.
-    fn put(&mut self, node: Box<Node>, record: Record) -> Result<Placed, NoneFree> {
-        let (node, overfull) = match *node {
+    fn put(&mut self, node: Node, record: Record) -> Result<Placed, NoneFree> {
+        let (node, overfull) = match node {
             Node::Points(mut page) => {
                 page.records.push(record);
                 let overfull = page.records.len() > points_a_page(self.k);
@@ -138,8 +132,8 @@ impl Pages {
                     .position(|entry| entry.region.holds(&record.keys))
                     .expect("the regions of a sound page leave no point out");
                 let Entry { region, child } = page.entries.remove(at);
-                match self.put(child, record)? {
-                    Placed::Whole(child) => page.entries.insert(at, Entry { region, child }),
+                match self.put(*child, record)? {
+                    Placed::Whole(child) => page.entries.insert(at, Entry::new(region, child)),
                     Placed::Halves {
                         domain,
                         cut,
@@ -148,16 +142,8 @@ impl Pages {
                     } => {
                         // The left entry takes the old place, the right one goes last.
                         let (left_region, right_region) = region.split(domain, cut);
-                        let left = Entry {
-                            region: left_region,
-                            child: left,
-                        };
-                        let right = Entry {
-                            region: right_region,
-                            child: right,
-                        };
-                        page.entries.insert(at, left);
-                        page.entries.push(right);
+                        page.entries.insert(at, Entry::new(left_region, left));
+                        page.entries.push(Entry::new(right_region, right));
                     }
                 }
                 let overfull = page.entries.len() > regions_a_page(self.k);
@@ -165,15 +151,15 @@ impl Pages {
             }
         };
         if !overfull {
-            return Ok(Placed::Whole(Box::new(node)));
+            return Ok(Placed::Whole(node));
         }
         let (domain, cut) = choose_cut(&node, self.k);
         let (left, right) = self.split(node, domain, cut, Reason::Chosen)?;
         Ok(Placed::Halves {
             domain,
             cut,
-            left: Box::new(left),
-            right: Box::new(right),
+            left,
+            right,
         })
     }
 
@@ -223,14 +209,8 @@ impl Pages {
                         let (left_region, right_region) = entry.region.split(domain, cut);
                         let (left_child, right_child) =
                             self.split(*entry.child, domain, cut, Reason::Forced)?;
-                        left.push(Entry {
-                            region: left_region,
-                            child: Box::new(left_child),
-                        });
-                        right.push(Entry {
-                            region: right_region,
-                            child: Box::new(right_child),
-                        });
+                        left.push(Entry::new(left_region, left_child));
+                        right.push(Entry::new(right_region, right_child));
                     }
                 }
                 Ok((

@@ -70,8 +70,8 @@ fn grow(
         Opened::Regions(raw_entries) => {
             let mut entries = Vec::new();
             for (region, child) in raw_entries {
-                let child = Box::new(grow(words, head, child, level + 1, reached)?);
-                entries.push(Entry { region, child });
+                let child = grow(words, head, child, level + 1, reached)?;
+                entries.push(Entry::new(region, child));
             }
             Some(Node::Regions(RegionPage {
                 number,

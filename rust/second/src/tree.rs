@@ -63,6 +63,15 @@ pub struct Entry {
     pub child: Box<Node>,
 }
 
+impl Entry {
+    pub fn new(region: Region, child: Node) -> Entry {
+        Entry {
+            region,
+            child: Box::new(child),
+        }
+    }
+}
+
 #[derive(Clone, Debug, PartialEq, Eq)]
 pub struct PointPage {
     pub number: u32,

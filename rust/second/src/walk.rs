@@ -81,12 +81,12 @@ impl Walk<'_> {
     }
 }
 
-/// What a list walk gives: the answer with all locations in walk order, or the refusal; and the pages read.
+/// The walk of list: the answer, all locations in walk order as far as it came, and the pages read.
 pub fn list(
     words: &[u32],
     head: &Header,
     window: &[u32],
-) -> (Result<(Listed, Vec<u32>), Refusal>, Vec<u32>) {
+) -> (Result<Listed, Refusal>, Vec<u32>, Vec<u32>) {
     let mut walk = Walk {
         words,
         head,
@@ -102,5 +102,5 @@ pub fn list(
         total: walk.locations.len() as u32,
         reads: walk.read.len() as u32,
     };
-    (end.map(|()| (listed, walk.locations)), walk.read)
+    (end.map(|()| listed), walk.locations, walk.read)
 }

@@ -51,7 +51,7 @@ pub fn header(words: &[u32]) -> Result<Header, Refusal> {
     let good = (1..=4).contains(&k)
         && words[1] as usize == n
         && (root as usize) < n
-        && levels as usize <= n - 1
+        && (levels as usize) < n
         && (root == 0) == (levels == 0)
         && words[5..PAGE].iter().all(|&w| w == 0);
     if !good {
