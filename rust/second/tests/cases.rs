@@ -252,6 +252,79 @@ fn case_11_forced_split_leaves_an_empty_page() {
     assert_eq!(work, kept);
 }
 
+/// The left entry takes the old place, the right one goes last.
+#[test]
+fn right_entry_goes_last() {
+    let (mut pool, _) = fifteen(5);
+    for key in 1..=8 {
+        assert_eq!(place(&mut pool, &[key], key), 0);
+    }
+    // Keys 1 to 8, then 10 to 70: rank 7 is 8.
+    let left = [2, 7, 0, 0, 1, 1, 2, 2, 3, 3, 4, 4, 5, 5, 6, 6, 7, 7];
+    let right = [
+        2, 8, 0, 0, 10, 11, 20, 21, 30, 31, 40, 41, 50, 51, 60, 61, 70, 71, 8, 8,
+    ];
+    let root = [1, 3, 0, 0, 0, 8, 1, 80, INF, 2, 8, 80, 4];
+    assert_eq!(page(&pool, 0), page_of(&[1, 5, 3, 2, 23]));
+    assert_eq!(page(&pool, 1), page_of(&left));
+    assert_eq!(page(&pool, 3), page_of(&root));
+    assert_eq!(page(&pool, 4), page_of(&right));
+    assert_eq!(
+        list_all(&pool, &[8, 80]).2,
+        [81, 11, 21, 31, 41, 51, 61, 71, 8]
+    );
+}
+
+/// The strip itself is split, along its own domain; then both its halves cross the root's cut, the first
+/// in its old place, the second as the last entry.
+#[test]
+fn a_new_entry_may_cross() {
+    let strip: Vec<[u32; 2]> = (0..9).map(|i| [10 * i, i]).collect();
+    let root = RegionPage {
+        number: 7,
+        domain: 0,
+        entries: vec![
+            entry([0, 0], [INF, 10], points(3, 1, &strip)),
+            entry([0, 10], [10, INF], points(1, 1, &[])),
+            entry([10, 10], [20, INF], points(2, 1, &[])),
+            entry([20, 10], [30, INF], points(4, 1, &[])),
+            entry([30, 10], [INF, INF], points(5, 1, &[])),
+        ],
+    };
+    let tree = Pool {
+        k: 2,
+        n: 12,
+        root: Some(Box::new(Node::Regions(root))),
+    };
+    let mut pool = tree.print();
+    assert_eq!(check(&pool), Ok(()));
+    assert_eq!(place(&mut pool, &[5, 9], 14), 0);
+    assert_eq!(check(&pool), Ok(()));
+    // Second keys 0 to 9: the cut is 5, the right page 6. Lower ends 0 0 10 20 30 0: rank 3 is 10.
+    let pages: [&[u32]; 12] = [
+        &[2, 12, 11, 3, 10],
+        &[2, 0, 1, 0],
+        &[2, 0, 1, 0],
+        &[2, 1, 0, 0, 0, 0, 0],
+        &[2, 0, 1, 0],
+        &[2, 0, 1, 0],
+        &[2, 1, 0, 0, 5, 9, 14],
+        &[
+            1, 3, 1, 0, 0, 0, 10, 5, 3, 0, 10, 10, INF, 1, 0, 5, 10, 10, 6,
+        ],
+        &[
+            1, 5, 1, 0, 10, 0, INF, 5, 9, 10, 10, 20, INF, 2, 20, 10, 30, INF, 4, 30, 10, INF, INF,
+            5, 10, 5, INF, 10, 10,
+        ],
+        &[2, 4, 0, 0, 10, 1, 11, 20, 2, 22, 30, 3, 33, 40, 4, 44],
+        &[2, 4, 0, 0, 50, 5, 55, 60, 6, 66, 70, 7, 77, 80, 8, 88],
+        &[1, 2, 0, 0, 0, 0, 10, INF, 7, 10, 0, INF, INF, 8],
+    ];
+    for (number, start) in pages.iter().enumerate() {
+        assert_eq!(page(&pool, number), page_of(start), "{number}");
+    }
+}
+
 /// A root two levels above the points: the crossing child is a region page, and its crossing child in turn
 /// is claimed for before the next crossing entry of the root.
 #[test]
