@@ -75,7 +75,6 @@ module _ (w : List ℕ) (sound : Sound L w) (rs : List Rec) (same : SameRecords 
       ap (λ o. o .after .answer) e ∙ (g .2 ∙ ap₂ (λ l n. take (length slots) l ++ drop n slots) (sym (map-loc (t .found))) (sym long)) in
       record {
         done = ap (λ o. o .number) e ∙ g .0;
-        found = found;
         exact = exact;
         total =
             ap (λ o. getD (o .values) 0 0) e ∙ (g .1 ∙ (sym long ∙ (ap length is

@@ -512,6 +512,7 @@ tally-parts f g (a ∷ l) = omega (arith, go (f a) (g a), tally-parts f g l)
     go true true = refl
     go true false = refl
     go false c = refl
+
 -- pages' words: stores, padding, entries joined, and numbers that pass a test
 pub ne-of-bit : (c j : ℕ) → bit (eqb c j) ≡ 0 → (c ≡ j → ⊥)
 ne-of-bit c j h e = let g = self j in let u : bit (eqb j j) ≡ 0 = subst (λ i. bit (eqb i j) ≡ 0) e h in absurd (omega arith)

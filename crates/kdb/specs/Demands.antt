@@ -14,6 +14,7 @@ use Rattle.kdb.specs.Tree.{Rec, State, recordsOf}
 use Rattle.kdb.specs.Steps.{removed}
 use Rattle.kdb.specs.Pool.{domains, levelsAt, pagesIn, numbers, Sound, ownRegion}
 use Rattle.kdb.specs.Print.{printed, stateOf}
+use Rattle.kdb.specs.Walk.{listWalk}
 use Rattle.kdb.specs.Calls.{L, Call, place, remove, find, list, finite, windowOf, ordered, stepped, outcome, walkOf}
 use Rattle.kdb.specs.History.{run, answers, live}
 
@@ -36,16 +37,18 @@ goodWindow k v = eqb (length v) (2 * k) && finite v && ordered (windowOf k v)
 abbrev pub goodPoint : ℕ → List ℕ → Bool
 goodPoint k p = eqb (length p) k && finite p
 
+-- the records that list's walk finds, in walk order
+abbrev pub foundBy : List ℕ → List ℕ → List Rec
+foundBy w v = map (λ x. x .rec) (listWalk L w (windowOf (domains w) v) .found)
+
 -- list on pool w finds exactly those of the records rs that lie in the window, edges counted, each once, whatever the slots
 pub record Lists (w : List ℕ) (rs : List Rec) (v slots : List ℕ) : Type 0 where
   pub done : outcome w (list v slots) .number ≡ 0
-  -- the records found, in walk order
-  pub found : List Rec
-  pub exact : SameRecords found (inside (domains w) v rs)
+  pub exact : SameRecords (foundBy w v) (inside (domains w) v rs)
   pub total : getD (outcome w (list v slots) .values) 0 0 ≡ length (inside (domains w) v rs)
   -- with slots enough the first take the locations in walk order and later slots are unchanged; with too few all take the first locations
-  pub enough : length found ≤ length slots → outcome w (list v slots) .after .answer ≡ map (λ r. r .loc) found ++ drop (length found) slots
-  pub few : length slots ≤ length found → outcome w (list v slots) .after .answer ≡ take (length slots) (map (λ r. r .loc) found)
+  pub enough : length (foundBy w v) ≤ length slots → outcome w (list v slots) .after .answer ≡ map (λ r. r .loc) (foundBy w v) ++ drop (length (foundBy w v)) slots
+  pub few : length slots ≤ length (foundBy w v) → outcome w (list v slots) .after .answer ≡ take (length slots) (map (λ r. r .loc) (foundBy w v))
 
 -- find on pool w answers 0 with the location of the record of rs that has the point's keys, or 8 if there is none
 pub record Finds (w : List ℕ) (rs : List Rec) (p : List ℕ) : Type 0 where
