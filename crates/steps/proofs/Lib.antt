@@ -7,3 +7,4 @@ pub mod Split
 pub mod Grow
 pub mod Stood
 pub mod Place
+pub mod Remove
