@@ -429,11 +429,11 @@ module _ {ℓ} {A : Type ℓ} where
   sets-cons a l i [] = refl
   sets-cons a l i (y ∷ ys) = sets-cons a (set l i y) (suc i) ys
 
-  pub sets-nil : (i : ℕ) (ys : List A) → _≡_ {A = List A} (sets [] i ys) []
+  sets-nil : (i : ℕ) (ys : List A) → _≡_ {A = List A} (sets [] i ys) []
   sets-nil i [] = refl
   sets-nil i (y ∷ ys) = sets-nil (suc i) ys
 
-  pub sets-front : (xs ys zs : List A) → length zs ≡ length xs → sets (xs ++ ys) 0 zs ≡ zs ++ ys
+  sets-front : (xs ys zs : List A) → length zs ≡ length xs → sets (xs ++ ys) 0 zs ≡ zs ++ ys
   sets-front [] ys [] h = refl
   sets-front [] ys (z ∷ zs) h = absurd (omega arith)
   sets-front (x ∷ xs) ys [] h = absurd (omega arith)
@@ -455,7 +455,7 @@ pad-pad (suc n) zero ws h i = absurd (omega arith)
 pad-pad (suc n) (suc m) [] h i = ap (λ r. 0 ∷ r) (pad-pad n m [] (omega arith) (omega arith))
 pad-pad (suc n) (suc m) (a ∷ ws) h i = ap (λ r. a ∷ r) (pad-pad n m ws (omega arith) (omega arith))
 
-pub pad-add : (a b : ℕ) → pad (a + b) [] ≡ pad a [] ++ pad b []
+pad-add : (a b : ℕ) → pad (a + b) [] ≡ pad a [] ++ pad b []
 pad-add zero b = ap (λ i. pad i []) (zero-add b)
 pad-add (suc a) b = ap (λ i. pad i []) (suc-add a b) ∙ ap (λ r. 0 ∷ r) (pad-add a b)
 

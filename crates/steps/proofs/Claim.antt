@@ -2,15 +2,15 @@
 use mathlib.Core.Bool.{Bool, true, false, cond}
 use mathlib.Core.List.{List, [], _∷_}
 use mathlib.Core.Path.{_≡_, refl, sym, ap, ap₂, _∙_, subst}
-use Prim.Native.Nat.{ℕ, zero, suc, _+_, _*_, _-_, _<_, _≤_}
+use Prim.Native.Nat.{ℕ, zero, suc, _+_, _-_, _<_, _≤_}
 use native.Mathlib.Omega.{arith}
 use lib.Dec.{T-not, eqb, eqb→eq}
 use lib.ListN.{length, getD}
 use borrow.Author.Tests.{eq-eqb, ne-eqb}
-use Rattle.kdb.specs.Lists.{bit, only, many, upFrom, pad}
+use Rattle.kdb.specs.Lists.{only, many, upFrom, pad}
 use Rattle.kdb.specs.Pages.{layout, page}
 use Rattle.kdb.proofs.Lists.{bool, self, no-bit, length-pad, only-same, only-in, only-once, only-claimed}
-use Rattle.steps.specs.Machine.{Claimed, word, freshIn}
+use Rattle.steps.specs.Machine.{word, freshIn}
 use Rattle.steps.specs.Claim.{freeFrom, lowest, claimIn}
 use Rattle.kdb.proofs.Pages.{word-at}
 use Rattle.steps.proofs.Machine.{Wrote, fresh}
@@ -21,10 +21,10 @@ headOr (a ∷ l) z = a
 
 -- the store leaves every page's kind
 module _ (L : ℕ) (big : 4 ≤ L) where
-  pub kind-at : (w : List ℕ) (c kd m e : ℕ) (ws : List ℕ) → page L w c ≡ layout L kd m e ws → word L w c 0 ≡ kd
+  kind-at : (w : List ℕ) (c kd m e : ℕ) (ws : List ℕ) → page L w c ≡ layout L kd m e ws → word L w c 0 ≡ kd
   kind-at w c kd m e ws h = sym (word-at L w c 0 (omega arith)) ∙ ap (λ p. getD p 0 0) h
 
-  pub kind-same : (w w′ : List ℕ) (c : ℕ) → page L w′ c ≡ page L w c → word L w′ c 0 ≡ word L w c 0
+  kind-same : (w w′ : List ℕ) (c : ℕ) → page L w′ c ≡ page L w c → word L w′ c 0 ≡ word L w c 0
   kind-same w w′ c h = sym (word-at L w′ c 0 (omega arith)) ∙ (ap (λ p. getD p 0 0) h ∙ word-at L w c 0 (omega arith))
 
   pub kinds : (w w′ : List ℕ) (j kd m m′ e e′ : ℕ) (ws ws′ : List ℕ) → page L w j ≡ layout L kd m e ws → Wrote L w j (layout L kd m′ e′ ws′) w′ → (c : ℕ) → word L w′ c 0 ≡ word L w c 0
@@ -61,10 +61,10 @@ module _ (L N : ℕ) where
   unfolding lowest
   lowest-is w free h f = let e : 1 + (N - 1) ≡ N = omega arith in lowest-from (N - 1) w 1 ∙ ap₂ headOr (f .is) e
 
-  pub free-range : (w free : List ℕ) → Free w free → (c : ℕ) → 1 ≤ many c free → (1 ≤ c) × (c < N)
+  free-range : (w free : List ℕ) → Free w free → (c : ℕ) → 1 ≤ many c free → (1 ≤ c) × (c < N)
   free-range w free f c h = let r = only-in (blankAt w) (N - 1) 1 c (subst (λ l. 1 ≤ many c l) (sym (f .is)) h) in (r .0, omega (arith, r .0, r .1))
 
-  pub free-once : (w free : List ℕ) → Free w free → (c : ℕ) → many c free ≤ 1
+  free-once : (w free : List ℕ) → Free w free → (c : ℕ) → many c free ≤ 1
   free-once w free f c = subst (λ l. many c l ≤ 1) (f .is) (only-once (blankAt w) (N - 1) 1 c)
 
   -- stores that leave every kind and the free pages

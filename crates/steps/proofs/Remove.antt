@@ -1,26 +1,26 @@
 -- Removing in place: `remove-is`, for every pool in which a state stands and every search that ended at the point's record, gives the printed
 -- form of the state without it.
 use mathlib.Core.Bool.{Bool, true, false, cond}
-use mathlib.Core.List.{List, [], _∷_, _++_, append-assoc}
+use mathlib.Core.List.{List, [], _∷_, _++_}
 use mathlib.Core.Option.{none, some}
 use mathlib.Core.Path.{_≡_, refl, sym, ap, ap₂, _∙_, subst}
-use Prim.Native.Nat.{ℕ, zero, suc, _+_, _*_, _-_, _<_, _≤_}
+use Prim.Native.Nat.{ℕ, zero, suc, _+_, _*_, _-_, _≤_}
 use native.Mathlib.Omega.{arith}
-use native.Mathlib.Nat.{mul-le-mul-right, mul-zero, zero-add}
+use native.Mathlib.Nat.{mul-zero, zero-add}
 use lib.Dec.{eqb, eqb→eq}
-use lib.ListN.{length, take, drop, getD, set, length-append}
+use lib.ListN.{length, take, drop, set, length-append}
 use lib.Seq.{sets, take-at, drop-at, drop-append-add}
 use borrow.Author.Tests.{ne-eqb}
-use Rattle.kdb.specs.Lists.{bit, many, Each, gather, pad, same}
-use Rattle.kdb.specs.Box.{Box, Key, whole, within}
+use Rattle.kdb.specs.Lists.{bit, many, gather, pad, same}
+use Rattle.kdb.specs.Box.{Key, whole, within}
 use Rattle.kdb.specs.Tree.{Rec, Tree, leaf, node, Forest, fnil, fcons, State, root, levels, levelsF, pages, pagesF, records, recordsF}
 use Rattle.kdb.specs.Steps.{without, remove, removeF, removed}
 use Rattle.kdb.specs.Pages.{points, regions, layout, recsIn, entsIn, regionsPer, pointsPer, wordsR, printPage, page}
-use Rattle.kdb.specs.Pool.{domains, rootAt, levelsAt, countAt, pagesIn, view}
-use Rattle.kdb.specs.Walk.{Spot, spots, isPage, goodPoints, goodRegions, End, rootless, bad, absent, here, Search, ends, after, spotOf, into, seek, findWalk}
+use Rattle.kdb.specs.Pool.{domains, countAt, pagesIn, view}
+use Rattle.kdb.specs.Walk.{Spot, spots, isPage, goodPoints, goodRegions, rootless, bad, here, Search, ends, after, spotOf, into, seek, findWalk}
 use Rattle.kdb.specs.Shape.{WellFormed}
 use Rattle.kdb.specs.Print.{ents, header, printed}
-use Rattle.kdb.proofs.Lists.{bool, is-true, is-false, choice-true, choice-false, none-of, no-bit, self, append-each, gather-append, many-append, length-pad, pad-tail, pad-gap}
+use Rattle.kdb.proofs.Lists.{bool, is-true, is-false, choice-true, choice-false, no-bit, self, append-each, gather-append, many-append, length-pad, pad-tail, pad-gap}
 use Rattle.kdb.proofs.Pages.{rec-length, points-fit}
 use Rattle.kdb.proofs.Views.{Seen, SeenF, whole-under}
 use Rattle.kdb.proofs.Print.{some-levels, header-words, stands-seen}
@@ -34,7 +34,7 @@ use Rattle.steps.proofs.Split.{word-of}
 use Rattle.steps.proofs.Stood.{shaped-fits, stood-head, stood-length, stood-blank, stood-held, stood-back}
 
 -- the gap that an entry leaves is closed
-pub closed : (L wd : ℕ) → 4 ≤ L → (w : List ℕ) (c kd m e : ℕ) (xs es ys : List ℕ) (a : ℕ) → page L w c ≡ layout L kd (suc m) e (xs ++ (es ++ ys)) → length es ≡ wd → length (xs ++ (es ++ ys)) ≡ suc m * wd
+closed : (L wd : ℕ) → 4 ≤ L → (w : List ℕ) (c kd m e : ℕ) (xs es ys : List ℕ) (a : ℕ) → page L w c ≡ layout L kd (suc m) e (xs ++ (es ++ ys)) → length es ≡ wd → length (xs ++ (es ++ ys)) ≡ suc m * wd
     → 4 + suc m * wd ≤ L → a ≡ 4 + length xs → Wrote L w c (layout L kd m e (xs ++ ys)) (closeIn L wd w c a)
 unfolding closeIn
 closed L wd big w c kd m e xs es ys a h ne n room at =

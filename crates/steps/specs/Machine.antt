@@ -1,7 +1,7 @@
 -- The stores that every step on words is made of. A step's name ends in `In` where it works in place, on a pool's words. L is the words of
 -- a page, wd the words of an entry.
 use mathlib.Core.Bool.{Bool, cond}
-use mathlib.Core.List.{List, [], _∷_}
+use mathlib.Core.List.{List, []}
 use Prim.Native.Nat.{ℕ, _+_, _*_}
 use lib.Dec.{leb}
 use lib.ListN.{getD, set}
