@@ -6,7 +6,7 @@ use Prim.Native.Nat.{ℕ, zero, suc, _+_, _-_, _*_, _<_, _≤_, min}
 use native.Mathlib.Omega.{arith}
 use native.Mathlib.Nat.{zero-mul, suc-mul, zero-add, suc-add}
 use lib.Dec.{T, T-not, leb, ltb, eqb, leb→le, le→leb, ltb→lt, lt→ltb, nleb→lt, nltb→le, eqb→eq, eqb-refl}
-use lib.ListN.{length, take, drop, getD, length-append, set}
+use lib.ListN.{length, take, drop, getD, length-append, set, replicate}
 use lib.Seq.{sets}
 use borrow.Author.Tests.{eq-eqb, ne-eqb}
 use Rattle.kdb.specs.Lists.{bit, only, tally, every, any, Each, gather, sum, many, upFrom, pad, same}
@@ -446,6 +446,10 @@ module _ {ℓ κ} {A : Type ℓ} {B : Type κ} (g : A → List B) where
   pub gather-append : (l m : List A) → gather g (l ++ m) ≡ gather g l ++ gather g m
   gather-append [] m = refl
   gather-append (a ∷ l) m = ap (λ r. g a ++ r) (gather-append l m) ∙ sym (append-assoc (g a) (gather g l) (gather g m))
+
+pub pad-nil : (n : ℕ) → pad n [] ≡ replicate n 0
+pad-nil zero = refl
+pad-nil (suc n) = ap (λ r. 0 ∷ r) (pad-nil n)
 
 -- padding twice
 pub pad-pad : (n m : ℕ) (ws : List ℕ) → length ws ≤ n → n ≤ m → pad m (pad n ws) ≡ pad m ws

@@ -232,7 +232,7 @@ module _ (L N k R P : ℕ) (big : 4 ≤ L) (fitR : 4 + R * (2 * k + 1) ≤ L) (f
 -- the turns above the point pages
 module _ (L N k R P : ℕ) where
   module _ (n d x r a j : ℕ) (w u v : List ℕ) (m e : ℕ) (p : word L w j 1 ≡ m) (q : word L w j 2 ≡ e)
-      (h : set (set (take (2 * k + 1) (drop a w)) d x) (2 * k) r ≡ u) (z : set w (a + (k + d)) x ≡ v) where
+      (h : set (set (take (2 * k + 1) (drop a w)) d x) (2 * k) r ≡ u) (z : set w (a + k + d) x ≡ v) where
     widen-room : m < R → widenIn L N k R P n d x r a j w ≡ record { how = fine; words = appendIn L (2 * k + 1) v j u }
     unfolding widenIn
     widen-room l = rw (p, q, h, z, lt-ltb m R l)
@@ -342,10 +342,10 @@ module _ (L N k R P : ℕ) (big : 4 ≤ L) (fitR : 4 + R * (2 * k + 1) ≤ L) (f
           ) in
           let h1 : page L w1 p ≡ layout L 1 m e ws = sp .keep p (omega (arith, once′ p, self p, sp .count p)) ∙ held .0 in
           let of = word-of L big w1 p 1 m e ws h1 in
-          let idx : a + (k + d) ≡ L * p + (4 + i) = omega (arith, at) in
+          let idx : a + k + d ≡ L * p + (4 + i) = omega (arith, at) in
           let inner : 4 + i + 1 ≤ L = omega (arith, n-ws, n-ws2, nE, room) in
           let v = set w1 (L * p + (4 + i)) x in
-          let v-is : set w1 (a + (k + d)) x ≡ v = ap (λ j. set w1 j x) idx in
+          let v-is : set w1 (a + k + d) x ≡ v = ap (λ j. set w1 j x) idx in
           let o2 : Wrote L w1 p (layout L 1 m e ws′) v =
           let o = wrote L w1 p (4 + i) (x ∷ []) inner in
           record { here = o .here ∙ (ap (λ v. set v (4 + i) x) h1 ∙ (layout-set L 1 m e ws i x (omega (arith, n-ws2, nE)) ∙ ap (layout L 1 m e) e-ws)); there = o .there; long = o .long } in

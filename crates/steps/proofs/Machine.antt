@@ -2,7 +2,7 @@
 -- as it was.
 use mathlib.Core.Bool.{true}
 use mathlib.Core.List.{List, [], _∷_, _++_}
-use mathlib.Core.Path.{_≡_, refl, sym, ap, ap₂, _∙_, subst}
+use mathlib.Core.Path.{_≡_, refl, sym, ap, ap₂, _∙_, subst, subst₂}
 use Prim.Native.Nat.{ℕ, suc, _+_, _*_, _-_, _≤_}
 use native.Mathlib.Omega.{arith}
 use native.Mathlib.Nat.{add-zero, suc-mul}
@@ -12,7 +12,7 @@ use lib.Seq.{sets, length-sets}
 use borrow.Author.Tests.{le-leb}
 use Rattle.kdb.specs.Lists.{bit, pad}
 use Rattle.kdb.specs.Pages.{layout, page}
-use Rattle.kdb.proofs.Lists.{ne-of-bit, sets-cons, sets-all, length-pad, pad-sets, pad-tail, pad-pad}
+use Rattle.kdb.proofs.Lists.{ne-of-bit, sets-cons, sets-all, length-pad, pad-sets, pad-nil, pad-tail, pad-pad}
 use Rattle.kdb.proofs.Pages.{page-sets, page-sets-other, word-at}
 use Rattle.steps.specs.Machine.{word, freshIn, appendIn, overfull}
 
@@ -60,7 +60,7 @@ module _ (L : ℕ) (big : 4 ≤ L) where
       let o = then-wrote L w w1 w2 c _ _ a b in
       let r : Wrote L w c (layout L kd 0 e []) (set w2 (L * c + 2) e) =
       record { here = d .here ∙ (ap (λ v. set v 2 e) (b .here ∙ ap (λ v. set v 0 kd) (a .here)) ∙ q); there = λ i t. d .there i t ∙ o .there i t; long = d .long ∙ o .long } in
-      subst (λ i. Wrote L w c (layout L kd 0 e []) (set (set (sets w i (pad L [])) i kd) (L * c + 2) e)) z r
+      subst₂ (λ i v. Wrote L w c (layout L kd 0 e []) (set (set (sets w i v) i kd) (L * c + 2) e)) z (pad-nil L) r
 
   module _ (wd : ℕ) (w : List ℕ) (c kd m e : ℕ) (ws u : List ℕ) (h : page L w c ≡ layout L kd m e ws) (n : length ws ≡ m * wd) (l : length u ≡ wd) where
     count-at : word L w c 1 ≡ m

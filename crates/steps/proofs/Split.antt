@@ -5,7 +5,7 @@ use mathlib.Core.Option.{Option, none, some}
 use mathlib.Core.Path.{_≡_, refl, sym, ap, ap₂, _∙_, subst}
 use Prim.Native.Nat.{ℕ, zero, suc, _+_, _*_, _-_, _<_, _≤_}
 use native.Mathlib.Omega.{arith}
-use native.Mathlib.Nat.{mul-le-mul-right, zero-add}
+use native.Mathlib.Nat.{mul-le-mul-right, zero-add, add-assoc}
 use lib.Dec.{eqb}
 use lib.ListN.{length, take, drop, getD, set}
 use borrow.Author.Tests.{le-leb, lt-leb, eq-eqb, ne-eqb}
@@ -74,7 +74,7 @@ module _ (L N : ℕ) where
 
 -- one turn of the pass over entries
 module _ (L k d x : ℕ) (below : ℕ → List ℕ → Claimed) (n : ℕ) (src : List ℕ) (a j r : ℕ) (w : List ℕ) (u : List ℕ) (lo hi c : ℕ)
-    (q : take (2 * k + 1) (drop a src) ≡ u) (ql : getD src (a + d) 0 ≡ lo) (qh : getD src (a + (k + d)) 0 ≡ hi) (qc : getD src (a + 2 * k) 0 ≡ c) where
+    (q : take (2 * k + 1) (drop a src) ≡ u) (ql : getD src (a + d) 0 ≡ lo) (qh : getD src (a + k + d) 0 ≡ hi) (qc : getD src (a + 2 * k) 0 ≡ c) where
   entries-left : hi ≤ x → entriesIn L k d x below (suc n) src a j r w ≡ entriesIn L k d x below n src (a + (2 * k + 1)) j r (appendIn L (2 * k + 1) w j u)
   unfolding entriesIn
   entries-left h = rw (q, qh, le-leb hi x h)
@@ -188,8 +188,8 @@ module _ (L N k d x R P : ℕ) (big : 4 ≤ L) (low : d < k) where
     lo : getD src (a + d) 0 ≡ lowerAt d b
     lo = word-in src a (2 * k + 1) (wordsE (ent b (root t))) (gather wordsE (ents f) ++ zs) at long d (omega arith) ∙ entry-lower k b (root t) (fit .0) d low
 
-    hi : getD src (a + (k + d)) 0 ≡ upperAt d b
-    hi = word-in src a (2 * k + 1) (wordsE (ent b (root t))) (gather wordsE (ents f) ++ zs) at long (k + d) (omega arith) ∙ entry-upper k b (root t) (fit .0) d low
+    hi : getD src (a + k + d) 0 ≡ upperAt d b
+    hi = ap (λ i. getD src i 0) (add-assoc a k d) ∙ (word-in src a (2 * k + 1) (wordsE (ent b (root t))) (gather wordsE (ents f) ++ zs) at long (k + d) (omega arith) ∙ entry-upper k b (root t) (fit .0) d low)
 
     child : getD src (a + 2 * k) 0 ≡ root t
     child = word-in src a (2 * k + 1) (wordsE (ent b (root t))) (gather wordsE (ents f) ++ zs) at long (2 * k) (omega arith) ∙ entry-child k b (root t) (fit .0)
