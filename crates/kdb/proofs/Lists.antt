@@ -4,7 +4,7 @@ use mathlib.Core.List.{List, [], _∷_, _++_, map, append-assoc, append-nil}
 use mathlib.Core.Path.{_≡_, refl, sym, ap, ap₂, _∙_, subst}
 use Prim.Native.Nat.{ℕ, zero, suc, _+_, _-_, _*_, _<_, _≤_, min}
 use native.Mathlib.Omega.{arith}
-use native.Mathlib.Nat.{zero-mul, suc-mul, zero-add, suc-add}
+use native.Mathlib.Nat.{zero-mul, suc-mul, zero-add, suc-add, add-zero}
 use lib.Dec.{T, T-not, leb, ltb, eqb, leb→le, le→leb, ltb→lt, lt→ltb, nleb→lt, nltb→le, eqb→eq, eqb-refl}
 use lib.ListN.{length, take, drop, getD, length-append, set, replicate}
 use lib.Seq.{sets}
@@ -432,6 +432,10 @@ module _ {ℓ} {A : Type ℓ} where
   sets-nil : (i : ℕ) (ys : List A) → _≡_ {A = List A} (sets [] i ys) []
   sets-nil i [] = refl
   sets-nil i (y ∷ ys) = sets-nil (suc i) ys
+
+  pub sets-append : (l : List A) (i : ℕ) (xs ys : List A) → sets (sets l i xs) (i + length xs) ys ≡ sets l i (xs ++ ys)
+  sets-append l i [] ys = ap (λ j. sets l j ys) (add-zero i)
+  sets-append l i (x ∷ xs) ys = let e : i + suc (length xs) ≡ suc i + length xs = omega arith in ap (λ j. sets (sets l i (x ∷ xs)) j ys) e ∙ sets-append (set l i x) (suc i) xs ys
 
   sets-front : (xs ys zs : List A) → length zs ≡ length xs → sets (xs ++ ys) 0 zs ≡ zs ++ ys
   sets-front [] ys [] h = refl
