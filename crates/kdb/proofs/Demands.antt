@@ -48,10 +48,10 @@ pub record After (w : List ℕ) (c : Call) : Type 0 where
   pub same : SameRecords (recordsOf (stateOf L (outcome w c .after .pool))) (changed (outcome w c .number) c (recordsOf (stateOf L w)))
 
 -- the tests that an accepted place and an accepted remove have passed
-record Passed (w p : List ℕ) : Type 0 where
-  long : length p ≡ domains w
-  ends : T (finite p)
-  well : Sound L w
+pub record Passed (w p : List ℕ) : Type 0 where
+  pub long : length p ≡ domains w
+  pub ends : T (finite p)
+  pub well : Sound L w
 
 passed-within : (w p : List ℕ) → Passed w p → T (within (whole (domains w)) p)
 passed-within w p h = finite-whole (domains w) p (h .long) (h .ends)
@@ -71,7 +71,7 @@ not-there w p h n = go (stateOf L w) (Sound-stands L w (h .well) big)
     go (some t) st = by-end t (findWalk L w p .end) n (find-answers L w p t st (passed-within w p h))
 
 -- what place and remove have passed when they begin
-place-passed : (w work p : List ℕ) (l : ℕ) → T (begins w (place work p l)) → Passed w p × T (not (present (findWalk L w p .end)))
+pub place-passed : (w work p : List ℕ) (l : ℕ) → T (begins w (place work p l)) → Passed w p × T (not (present (findWalk L w p .end)))
 place-passed w work p l h =
     let i = eqb (length p) (domains w) in
     let j = eqb (length work) (length w) in
@@ -82,7 +82,7 @@ place-passed w work p l h =
       and-l (not (present (findWalk L w p .end))) _ (and-r (sound L w) _ t6),
     )
 
-remove-passed : (w p : List ℕ) → T (begins w (remove p)) → Passed w p
+pub remove-passed : (w p : List ℕ) → T (begins w (remove p)) → Passed w p
 remove-passed w p h =
     let i = eqb (length p) (domains w) in
     let t3 = and-r (goodHeader L w) _ (and-r (goodLength L w) _ h) in
@@ -90,7 +90,7 @@ remove-passed w p h =
     record { long = eqb→eq (length p) (domains w) (and-l i _ t3); ends = and-l (finite p) _ t4; well = sound-iff L big w .0 (and-l (sound L w) _ (and-r (finite p) _ t4)) }
 
 -- so that the tree's laws of placing hold
-place-placing : (w work p : List ℕ) (l : ℕ) → T (begins w (place work p l)) → Placing L (domains w) (pagesIn L w) (stateOf L w) (record { key = p; loc = l })
+pub place-placing : (w work p : List ℕ) (l : ℕ) → T (begins w (place work p l)) → Placing L (domains w) (pagesIn L w) (stateOf L w) (record { key = p; loc = l })
 place-placing w work p l h =
     let c = place-passed w work p l h in
     let f = Sound-stands L w (c .0 .well) big .formed in

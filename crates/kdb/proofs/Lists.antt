@@ -16,8 +16,9 @@ use native.Mathlib.Omega.{arith}
 use lib.Dec.{T, leb, ltb, eqb, leb→le, le→leb, ltb→lt, lt→ltb, nleb→lt, nltb→le, eqb→eq, eqb-refl, T-not}
 use lib.ListN.{length, take, drop, getD, length-append, take-append-drop}
 use native.Mathlib.Nat.{zero-mul, suc-mul, zero-add, suc-add}
+use native.Mathlib.Nat.{zero-mul, suc-mul, zero-add, suc-add, add-zero}
 use lib.Dec.{T, T-not, leb, ltb, eqb, leb→le, le→leb, ltb→lt, lt→ltb, nleb→lt, nltb→le, eqb→eq, eqb-refl}
-use lib.ListN.{length, take, drop, getD, length-append, set}
+use lib.ListN.{length, take, drop, getD, length-append, set, replicate}
 use lib.Seq.{sets}
 use borrow.Author.Tests.{eq-eqb, ne-eqb}
 use Rattle.kdb.specs.Lists.{bit, only, tally, every, any, Each, gather, sum, many, upFrom, pad, same}
@@ -547,11 +548,15 @@ module _ {ℓ} {A : Type ℓ} where
   sets-cons a l i [] = refl
   sets-cons a l i (y ∷ ys) = sets-cons a (set l i y) (suc i) ys
 
-  pub sets-nil : (i : ℕ) (ys : List A) → _≡_ {A = List A} (sets [] i ys) []
+  sets-nil : (i : ℕ) (ys : List A) → _≡_ {A = List A} (sets [] i ys) []
   sets-nil i [] = refl
   sets-nil i (y ∷ ys) = sets-nil (suc i) ys
 
-  pub sets-front : (xs ys zs : List A) → length zs ≡ length xs → sets (xs ++ ys) 0 zs ≡ zs ++ ys
+  pub sets-append : (l : List A) (i : ℕ) (xs ys : List A) → sets (sets l i xs) (i + length xs) ys ≡ sets l i (xs ++ ys)
+  sets-append l i [] ys = ap (λ j. sets l j ys) (add-zero i)
+  sets-append l i (x ∷ xs) ys = let e : i + suc (length xs) ≡ suc i + length xs = omega arith in ap (λ j. sets (sets l i (x ∷ xs)) j ys) e ∙ sets-append (set l i x) (suc i) xs ys
+
+  sets-front : (xs ys zs : List A) → length zs ≡ length xs → sets (xs ++ ys) 0 zs ≡ zs ++ ys
   sets-front [] ys [] h = refl
   sets-front [] ys (z ∷ zs) h = absurd (omega arith)
   sets-front (x ∷ xs) ys [] h = absurd (omega arith)
@@ -565,6 +570,10 @@ module _ {ℓ κ} {A : Type ℓ} {B : Type κ} (g : A → List B) where
   gather-append [] m = refl
   gather-append (a ∷ l) m = ap (λ r. g a ++ r) (gather-append l m) ∙ sym (append-assoc (g a) (gather g l) (gather g m))
 
+pub pad-nil : (n : ℕ) → pad n [] ≡ replicate n 0
+pad-nil zero = refl
+pad-nil (suc n) = ap (λ r. 0 ∷ r) (pad-nil n)
+
 -- padding twice
 pub pad-pad : (n m : ℕ) (ws : List ℕ) → length ws ≤ n → n ≤ m → pad m (pad n ws) ≡ pad m ws
 pad-pad zero m [] h i = refl
@@ -573,7 +582,7 @@ pad-pad (suc n) zero ws h i = absurd (omega arith)
 pad-pad (suc n) (suc m) [] h i = ap (λ r. 0 ∷ r) (pad-pad n m [] (omega arith) (omega arith))
 pad-pad (suc n) (suc m) (a ∷ ws) h i = ap (λ r. a ∷ r) (pad-pad n m ws (omega arith) (omega arith))
 
-pub pad-add : (a b : ℕ) → pad (a + b) [] ≡ pad a [] ++ pad b []
+pad-add : (a b : ℕ) → pad (a + b) [] ≡ pad a [] ++ pad b []
 pad-add zero b = ap (λ i. pad i []) (zero-add b)
 pad-add (suc a) b = ap (λ i. pad i []) (suc-add a b) ∙ ap (λ r. 0 ∷ r) (pad-add a b)
 

@@ -1,21 +1,21 @@
 -- Growing in place is growing the tree: `grows`, for every tree on a fair way.
-use mathlib.Core.Bool.{Bool, true, false, cond}
+use mathlib.Core.Bool.{true, false}
 use mathlib.Core.List.{List, [], _∷_, _++_, append-assoc, append-nil, map}
 use mathlib.Core.Option.{Option, none, some}
 use mathlib.Core.Path.{_≡_, refl, sym, ap, ap₂, _∙_, subst, subst₂}
 use Prim.Native.Nat.{ℕ, zero, suc, _+_, _*_, _-_, _<_, _≤_}
 use native.Mathlib.Omega.{arith}
-use native.Mathlib.Nat.{mul-le-mul-right, suc-mul}
-use lib.Dec.{T, leb, ltb, eqb, ltb→lt, nltb→le}
+use native.Mathlib.Nat.{mul-le-mul-right}
+use lib.Dec.{leb, ltb, eqb, ltb→lt, nltb→le}
 use lib.ListN.{length, take, drop, getD, set, length-append, length-set, take-append-drop}
 use lib.Seq.{drop-append-seam, drop-drop, set-append-left}
 use borrow.Author.Tests.{eq-eqb, ne-eqb, lt-ltb, le-ltb, le-leb, lt-leb}
-use Rattle.kdb.specs.Lists.{bit, only, many, Each, gather, pad}
+use Rattle.kdb.specs.Lists.{bit, many, Each, gather, pad}
 use Rattle.kdb.specs.Box.{Box, Key, within, leftPart, rightPart}
 use Rattle.kdb.specs.Tree.{Rec, Tree, leaf, node, Forest, fnil, fcons, root, boxes, pages, pagesF}
-use Rattle.kdb.specs.Cut.{Cut, nowhere, cut, cutPoints, cutRegions, isLeft, isRight}
-use Rattle.kdb.specs.Steps.{Two, split, afterChosen, Up, failed, fits, parts, UpF, failedF, kept, wider, size, joinF, parted, enter, behind, chosen, settleLeaf, settleNode, grow, growF}
-use Rattle.kdb.specs.Pages.{Ent, points, regions, layout, wordsR, wordsE, printPage, readRecs, readEnts, page}
+use Rattle.kdb.specs.Cut.{Cut, nowhere, cut, cutPoints, cutRegions}
+use Rattle.kdb.specs.Steps.{Two, split, afterChosen, Up, failed, fits, parts, UpF, failedF, kept, wider, size, joinF, parted, enter, behind, chosen, settleNode, grow, growF}
+use Rattle.kdb.specs.Pages.{points, regions, layout, wordsR, wordsE, printPage, readRecs, readEnts, page}
 use Rattle.kdb.specs.Print.{ents}
 use Rattle.kdb.proofs.Lists.{bool, choice-true, choice-false, is-true, is-false, self, many-append, each-append, gather-append, pad-tail, pad-set, set-append-add}
 use Rattle.kdb.proofs.Tiling.{part-length}
@@ -66,7 +66,7 @@ page-words L big w c kd m e ws h l =
     ∙ (ap (drop 4) (sym (take-append-drop L (drop (L * c) w)) ∙ ap (λ v. v ++ z) h) ∙ (ap (λ v. v ++ z) (pad-tail (L - 4) ws l) ∙ append-assoc ws (pad (L - 4 - length ws) []) z))
 
 -- the entries before the one that grew
-abbrev pub behinds : Forest → UpF → UpF
+abbrev behinds : Forest → UpF → UpF
 behinds fnil u = u
 behinds (fcons b t f) u = behind b t (behinds f u)
 
@@ -181,7 +181,7 @@ module _ (L N k R P : ℕ) (big : 4 ≤ L) (fitR : 4 + R * (2 * k + 1) ≤ L) (f
       d x (c .0) (split k d x (node p e f) e′ free1) (node-over k R P d x p e e′ n f free1 fit (c .1) (c .2)) (partRegions L N k d x (splitIn L N k d x n) src (length (ents f)) e′ p w1) s
 
   module _ (q : Rec) (key : length (q .key) ≡ k) where
-    pub grows-leaf : (p e : ℕ) (rs : List Rec) (w free : List ℕ) → (length rs ≤ P) × Keys k rs → page L w p ≡ printPage L (points e rs) → Free L N w free → ((c : ℕ) → many c (p ∷ []) + many c free ≤ 1)
+    grows-leaf : (p e : ℕ) (rs : List Rec) (w free : List ℕ) → (length rs ≤ P) × Keys k rs → page L w p ≡ printPage L (points e rs) → Free L N w free → ((c : ℕ) → many c (p ∷ []) + many c free ≤ 1)
         → Fair k R P (leaf p e rs) q free
         → OutcomeG L N k R P 0 w (leaf p e rs) free (grow k R P (leaf p e rs) q free) (growIn L N k R P (q .key) (q .loc) 0 p w)
     unfolding growIn
@@ -232,7 +232,7 @@ module _ (L N k R P : ℕ) (big : 4 ≤ L) (fitR : 4 + R * (2 * k + 1) ≤ L) (f
 -- the turns above the point pages
 module _ (L N k R P : ℕ) where
   module _ (n d x r a j : ℕ) (w u v : List ℕ) (m e : ℕ) (p : word L w j 1 ≡ m) (q : word L w j 2 ≡ e)
-      (h : set (set (take (2 * k + 1) (drop a w)) d x) (2 * k) r ≡ u) (z : set w (a + (k + d)) x ≡ v) where
+      (h : set (set (take (2 * k + 1) (drop a w)) d x) (2 * k) r ≡ u) (z : set w (a + k + d) x ≡ v) where
     widen-room : m < R → widenIn L N k R P n d x r a j w ≡ record { how = fine; words = appendIn L (2 * k + 1) v j u }
     unfolding widenIn
     widen-room l = rw (p, q, h, z, lt-ltb m R l)
@@ -342,10 +342,10 @@ module _ (L N k R P : ℕ) (big : 4 ≤ L) (fitR : 4 + R * (2 * k + 1) ≤ L) (f
           ) in
           let h1 : page L w1 p ≡ layout L 1 m e ws = sp .keep p (omega (arith, once′ p, self p, sp .count p)) ∙ held .0 in
           let of = word-of L big w1 p 1 m e ws h1 in
-          let idx : a + (k + d) ≡ L * p + (4 + i) = omega (arith, at) in
+          let idx : a + k + d ≡ L * p + (4 + i) = omega (arith, at) in
           let inner : 4 + i + 1 ≤ L = omega (arith, n-ws, n-ws2, nE, room) in
           let v = set w1 (L * p + (4 + i)) x in
-          let v-is : set w1 (a + (k + d)) x ≡ v = ap (λ j. set w1 j x) idx in
+          let v-is : set w1 (a + k + d) x ≡ v = ap (λ j. set w1 j x) idx in
           let o2 : Wrote L w1 p (layout L 1 m e ws′) v =
           let o = wrote L w1 p (4 + i) (x ∷ []) inner in
           record { here = o .here ∙ (ap (λ v. set v (4 + i) x) h1 ∙ (layout-set L 1 m e ws i x (omega (arith, n-ws2, nE)) ∙ ap (layout L 1 m e) e-ws)); there = o .there; long = o .long } in

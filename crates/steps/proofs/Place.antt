@@ -1,24 +1,24 @@
 -- Placing in place: `place-is`, for every pool in which a well-formed state stands, gives the printed form of the state after Robinson's
 -- steps, or, where a page is wanting, however far the splits had come, the words before.
-use mathlib.Core.Bool.{Bool, true, false, cond}
+use mathlib.Core.Bool.{true, false}
 use mathlib.Core.List.{List, [], _∷_, _++_, append-nil}
 use mathlib.Core.Option.{Option, none, some}
-use mathlib.Core.Path.{_≡_, refl, sym, ap, ap₂, _∙_, subst}
-use Prim.Native.Nat.{ℕ, zero, suc, _+_, _*_, _-_, _<_, _≤_}
+use mathlib.Core.Path.{_≡_, refl, sym, ap, _∙_, subst}
+use Prim.Native.Nat.{ℕ, suc, _+_, _*_, _-_, _≤_}
 use native.Mathlib.Omega.{arith}
 use native.Mathlib.Nat.{mul-le-mul-right, zero-mul, suc-mul}
 use lib.Dec.{eqb}
 use lib.ListN.{length, set}
-use borrow.Author.Tests.{eq-eqb, ne-eqb}
-use Rattle.kdb.specs.Lists.{bit, many, gather, pad}
+use borrow.Author.Tests.{ne-eqb}
+use Rattle.kdb.specs.Lists.{bit, many}
 use Rattle.kdb.specs.Box.{Key, whole, leftPart, rightPart}
-use Rattle.kdb.specs.Tree.{Rec, Tree, leaf, node, Forest, fnil, fcons, State, root, levels, pages, pagesOf, records, recordsOf}
-use Rattle.kdb.specs.Steps.{Two, freeOf, Up, failed, fits, parts, grow, newRoot, topped, first, placed}
+use Rattle.kdb.specs.Tree.{Rec, Tree, leaf, node, fnil, fcons, State, root, levels, pages, pagesOf, records, recordsOf}
+use Rattle.kdb.specs.Steps.{freeOf, Up, failed, fits, parts, grow, newRoot, topped, first, placed}
 use Rattle.kdb.specs.Pages.{regionsPer, pointsPer, layout, wordsR, wordsE, page}
-use Rattle.kdb.specs.Pool.{domains, rootAt, levelsAt, countAt, pagesIn}
+use Rattle.kdb.specs.Pool.{domains, pagesIn}
 use Rattle.kdb.specs.Shape.{WellFormed}
 use Rattle.kdb.specs.Print.{printed}
-use Rattle.kdb.proofs.Lists.{none-of, self, many-append}
+use Rattle.kdb.proofs.Lists.{none-of, many-append}
 use Rattle.kdb.proofs.Tiling.{part-length}
 use Rattle.kdb.proofs.Pages.{rec-length, ent-length, points-fit, regions-fit}
 use Rattle.kdb.proofs.Views.{whole-under, whole-length}
@@ -33,8 +33,7 @@ use Rattle.steps.proofs.Machine.{append}
 use Rattle.steps.proofs.Entry.{ent, entry-left, entry-right, entry-child-set}
 use Rattle.steps.proofs.Held.{Holds, frame, Fits}
 use Rattle.steps.proofs.Claim.{Free, claim-none, claim-some}
-use Rattle.steps.proofs.Split.{Splits, Both}
-use Rattle.steps.proofs.Grow.{OutcomeG, GoodG, grows}
+use Rattle.steps.proofs.Grow.{OutcomeG, grows}
 use Rattle.steps.proofs.Stood.{shaped-fits, one-height, free-apart, stood-head, stood-length, stood-blank, stood-free, stood-held, stood-back, head-set}
 
 -- the answer for a step of the tree

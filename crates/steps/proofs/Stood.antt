@@ -1,7 +1,7 @@
 -- From a printed state to what the steps need of its words, and back: its tree is held, its free pages are those that it does not use, and
 -- words that hold a well-formed tree with all else blank are its printed form.
-use mathlib.Core.Bool.{Bool, true, false}
-use mathlib.Core.List.{List, [], _∷_, _++_}
+use mathlib.Core.Bool.{Bool, false}
+use mathlib.Core.List.{List, [], _∷_}
 use mathlib.Core.Option.{none, some}
 use mathlib.Core.Path.{_≡_, refl, sym, ap, ap₂, _∙_, subst}
 use Prim.Native.Nat.{ℕ, zero, suc, _+_, _*_, _-_, _<_, _≤_}
@@ -11,28 +11,27 @@ use lib.Dec.{T, eqb, eqb→eq}
 use lib.ListN.{length, getD}
 use lib.Seq.{sets}
 use borrow.Author.Tests.{eq-eqb, ne-eqb}
-use Rattle.kdb.specs.Lists.{bit, only, every, many, Each, upFrom, pad}
-use Rattle.kdb.specs.Box.{Box, whole, within, solid}
-use Rattle.kdb.specs.Tree.{Rec, Tree, leaf, node, Forest, fnil, fcons, State, root, boxes, levels, pages, pagesF, pagesOf, recordsOf}
-use Rattle.kdb.specs.Steps.{freeOf, size}
-use Rattle.kdb.specs.Pages.{Page, blank, points, regions, inUse, regionsPer, pointsPer, printPage, page}
+use Rattle.kdb.specs.Lists.{every, many, Each, pad}
+use Rattle.kdb.specs.Box.{Box, within, solid}
+use Rattle.kdb.specs.Tree.{Tree, leaf, node, Forest, fnil, fcons, State, root, boxes, levels, pages, pagesF, pagesOf, recordsOf}
+use Rattle.kdb.specs.Steps.{freeOf}
+use Rattle.kdb.specs.Pages.{Page, blank, points, regions, inUse, printPage, page}
 use Rattle.kdb.specs.Shape.{Shaped, ShapedF, Numbered, WellFormed}
 use Rattle.kdb.specs.Print.{orPage, pageOf, pageOfF, pageAt, header, printed}
 use Rattle.kdb.proofs.Lists.{and-l, and-r, each-every, self, many-append, only-same, only-in, only-once}
-use Rattle.kdb.proofs.Pages.{page-length, word-at, pool-ext}
-use Rattle.kdb.proofs.Views.{Seen, SeenF, seen-own, at, among, page-in, page-out, or-first, Under, whole-under, under-key, under-length, tiles-under}
-use Rattle.kdb.proofs.Print.{print-length, print-header, print-page, header-words, some-levels}
-use Rattle.kdb.proofs.Stands.{rootOf, levelsOf}
+use Rattle.kdb.proofs.Pages.{word-at, pool-ext}
+use Rattle.kdb.proofs.Views.{Seen, SeenF, seen-own, at, among, page-in, page-out, or-first, Under, under-key, under-length, tiles-under}
+use Rattle.kdb.proofs.Print.{print-length, print-header, print-page, header-words}
 use Rattle.steps.specs.Machine.{word}
 use Rattle.steps.specs.Place.{headIn}
 use Rattle.steps.proofs.Machine.{Wrote, wrote}
-use Rattle.steps.proofs.Held.{Holds, HoldsF, frame, Fits, FitsF, size-boxes}
-use Rattle.steps.proofs.Claim.{Free, free-range}
+use Rattle.steps.proofs.Held.{Holds, HoldsF, Fits, FitsF, size-boxes}
+use Rattle.steps.proofs.Claim.{Free}
 
 -- a tree that is seen in v, where every page of it stands printed in s
 module _ (L : ℕ) (v : ℕ → Page) (s : ℕ → List ℕ) where
   mutual
-    pub held-seen : (t : Tree) → Seen v t → ((c : ℕ) → 1 ≤ many c (pages t) → s c ≡ printPage L (v c)) → Holds L s t
+    held-seen : (t : Tree) → Seen v t → ((c : ℕ) → 1 ≤ many c (pages t) → s c ≡ printPage L (v c)) → Holds L s t
     held-seen (leaf p d rs) e h = h p (omega (arith, self p)) ∙ ap (printPage L) e
     held-seen (node p d f) e h = (h p (omega (arith, self p)) ∙ ap (printPage L) (e .0), held-seenF f (e .1) (λ c i. h c (omega arith)))
 
@@ -44,7 +43,7 @@ module _ (L : ℕ) (v : ℕ → Page) (s : ℕ → List ℕ) where
 -- a tree that is held has its pages printed
 module _ (L : ℕ) (s : ℕ → List ℕ) where
   mutual
-    pub held-page : (t : Tree) → Holds L s t → (c : ℕ) → 1 ≤ many c (pages t) → s c ≡ printPage L (pageOf t c)
+    held-page : (t : Tree) → Holds L s t → (c : ℕ) → 1 ≤ many c (pages t) → s c ≡ printPage L (pageOf t c)
     held-page (leaf p d rs) h c i =
         at c p (λ e. ap s e ∙ (h ∙ rw (eq-eqb c p e))) (λ e. absurd (let z : 1 ≤ 0 + 0 = rw e at i in omega arith))
     held-page (node p d f) h c i =
@@ -101,7 +100,7 @@ blank-word : (L : ℕ) → 4 ≤ L → getD (pad L []) 0 0 ≡ 0
 blank-word L big = let e : L ≡ suc (L - 1) = omega arith in ap (λ n. getD (pad n []) 0 0) e
 
 module _ (L k N : ℕ) (s : State) (w : List ℕ) (big : 5 ≤ L) (wf : WellFormed L k N s) (is : w ≡ printed L k N s) where
-  pub stood-page : (j : ℕ) → 1 ≤ j → j < N → page L w j ≡ printPage L (pageAt s j)
+  stood-page : (j : ℕ) → 1 ≤ j → j < N → page L w j ≡ printPage L (pageAt s j)
   stood-page j h l = ap (λ v. page L v j) is ∙ print-page L k N s big wf j h l
 
   pub stood-head : page L w 0 ≡ pad L (header k N s)
