@@ -1,7 +1,7 @@
 -- The walks on a sound pool are the tree's: list reads the pages whose own regions meet the window, each once, and finds the records in
 -- it; a window of one point, and find, read one page of each level.
 use mathlib.Core.Bool.{Bool, true, false, _&&_, not, cond}
-use mathlib.Core.List.{List, [], _∷_, _++_, map, map-append}
+use mathlib.Core.List.{append-nil, List, [], _∷_, _++_, map, map-append}
 use mathlib.Core.Logic.{_↔_, _⊎_, inl, inr}
 use mathlib.Core.Option.{Option, none, some}
 use mathlib.Core.Path.{_≡_, refl, sym, ap, ap₂, _∙_, subst}
@@ -260,11 +260,25 @@ module _ (k R P : ℕ) where
 
   -- a window of one point reads one page of each level
   module _ (v : Box) (q : Key) (o : OnePoint v q) where
-    none-readsF : (f : Forest) → holders (boxes f) q ≡ 0 → length (readsF f v) ≡ 0
+    none-readsF : (f : Forest) → holders (boxes f) q ≡ 0 → readsF f v ≡ []
     none-readsF fnil h = refl
     none-readsF (fcons b t f) h =
-        ap (λ z. length (cond z (reads t v) [] ++ readsF f v)) (point-meets v q o b ∙ is-false (within b q) (not-T (within b q) (λ t. omega (arith, to-bit (within b q) t))))
+        ap (λ z. cond z (reads t v) [] ++ readsF f v) (point-meets v q o b ∙ is-false (within b q) (not-T (within b q) (λ t. omega (arith, to-bit (within b q) t))))
         ∙ none-readsF f (omega arith)
+
+    -- they are the pages that the search of the point reads
+    mutual
+      one-path : (t : Tree) (n : ℕ) (r : Box) → Shaped k R P t n r → T (within r q) → seeks t q .read ≡ reads t v
+      one-path (leaf p d rs) n r s h = refl
+      one-path (node p d f) zero r s h = absurd s
+      one-path (node p d f) (suc n) r s h = ap (λ l. p ∷ l) (one-pathF f n (s .1) (tiles-counted r (boxes f) (s .0 .tiled) .once q ∙ to-bit (within r q) h))
+
+      one-pathF : (f : Forest) (n : ℕ) → ShapedF k R P f n → holders (boxes f) q ≡ 1 → seeksF f q .read ≡ readsF f v
+      one-pathF fnil n s h = absurd (omega arith)
+      one-pathF (fcons b t f) n s h =
+          cases (λ z. bit z + holders (boxes f) q ≡ 1 → cond z (seeks t q) (seeksF f q) .read ≡ cond z (reads t v) [] ++ readsF f v) (within b q)
+          (λ i e. one-path t n b (s .0) i ∙ sym (ap (λ l. reads t v ++ l) (none-readsF f (omega arith)) ∙ append-nil (reads t v))) (λ _ e. one-pathF f n (s .1) (omega arith)) h
+          ∙ sym (ap (λ z. cond z (reads t v) [] ++ readsF f v) (point-meets v q o b))
 
     mutual
       one-reads : (t : Tree) (n : ℕ) (r : Box) → Shaped k R P t n r → T (within r q) → length (reads t v) ≡ suc n
@@ -277,7 +291,7 @@ module _ (k R P : ℕ) where
       one-readsF (fcons b t f) n s h =
           ap (λ z. length (cond z (reads t v) [] ++ readsF f v)) (point-meets v q o b)
           ∙ cases (λ z. bit z + holders (boxes f) q ≡ 1 → length (cond z (reads t v) [] ++ readsF f v) ≡ suc n) (within b q)
-          (λ i e. omega (arith, length-append (reads t v) (readsF f v), none-readsF f (omega arith), one-reads t n b (s .0) i)) (λ _ e. one-readsF f n (s .1) (omega arith)) h
+          (λ i e. omega (arith, length-append (reads t v) (readsF f v), ap length (none-readsF f (omega arith)), one-reads t n b (s .0) i)) (λ _ e. one-readsF f n (s .1) (omega arith)) h
 
   -- the search reads one page of each level, and ends at the record with the key exactly if there is one
   module _ (q : Key) where
@@ -465,6 +479,14 @@ module _ (L : ℕ) (w : List ℕ) where
         some-levels t,
         seeks-end k (regionsPer L k) (pointsPer L k) q t (levels t - 1) (whole k) (h .formed .shape) i .long,
       )
+
+  -- find's walk is that of the window of its point
+  pub find-path : (v : Box) (q : Key) (s : State) → Stands L w s → OnePoint v q → T (within (whole (domains w)) q) → findWalk L w q .read ≡ listWalk L w v .read
+  find-path v q none h o i = ap (λ g. g .read) (find-tree q none h) ∙ sym (ap (λ t. t .read) (list-tree v none h))
+  find-path v q (some t) h o i =
+      let k = domains w in
+      ap (λ g. g .read) (find-tree q (some t) h) ∙ (one-path k (regionsPer L k) (pointsPer L k) v q o t (levels t - 1) (whole k) (h .formed .shape) i
+      ∙ sym (ap (λ t. t .read) (list-tree v (some t) h)))
 
   pub find-rootless : (q : Key) → Stands L w none → findWalk L w q .end ≡ rootless
   find-rootless q h = ap (λ g. g .end) (find-tree q none h)

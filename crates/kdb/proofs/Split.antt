@@ -10,7 +10,7 @@ use native.Mathlib.Nat.{zero-add}
 use lib.Dec.{T, leb, eqb, leb→le, nleb→lt, eqb→eq}
 use lib.ListN.{length, take, drop, getD, length-drop, take-append-drop}
 use lib.Seq.{take-add, drop-drop}
-use Rattle.kdb.specs.Lists.{only, tally, every, many, same}
+use Rattle.kdb.specs.Lists.{only, tally, every, same}
 use Rattle.kdb.specs.Box.{Box, within, solid, leftPart, rightPart}
 use Rattle.kdb.specs.Tree.{Rec, Tree, leaf, node, Forest, fnil, fcons, dom, boxes, levels, levelsF, pages, pagesF, records, recordsF}
 use Rattle.kdb.specs.Cut.{Lies, left, right, across, lies, isLeft}

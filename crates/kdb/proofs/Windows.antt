@@ -12,13 +12,13 @@ use lib.Seq.{take-all, take-at, drop-at}
 use Rattle.kdb.specs.Box.{∞, sides, whole, meets}
 use Rattle.kdb.specs.Pool.{domains, levelsAt}
 use Rattle.kdb.specs.Tree.{State}
-use Rattle.kdb.specs.Walk.{listWalk}
+use Rattle.kdb.specs.Walk.{listWalk, findWalk}
 use Rattle.kdb.specs.Calls.{finite, ordered, windowOf}
 use Rattle.kdb.specs.Demands.{goodWindow, goodPoint}
 use Rattle.kdb.proofs.Lists.{and-i, and-l, and-r, every-take, every-append, of-true}
 use Rattle.kdb.proofs.Views.{finite-whole}
 use Rattle.kdb.proofs.Stands.{Stands}
-use Rattle.kdb.proofs.Reading.{one-point, list-point}
+use Rattle.kdb.proofs.Reading.{one-point, list-point, find-path}
 
 sides-meet : (k : ℕ) (ls us : List ℕ) → length ls ≡ k → length us ≡ k → T (finite ls) → T (ordered (sides ls us)) → T (meets (whole k) (sides ls us))
 sides-meet zero [] us h j f o = tt
@@ -65,6 +65,11 @@ point-good k p h =
 pub point-reads : (L : ℕ) (w p : List ℕ) (s : State) → Stands L w s → length p ≡ domains w → T (finite p) → length (listWalk L w (windowOf (domains w) (p ++ p)) .read) ≡ levelsAt w
 point-reads L w p s h e f =
     ap (λ v. length (listWalk L w v .read)) (point-window (domains w) p e) ∙ list-point L w (sides p p) p s h (one-point p) (finite-whole (domains w) p e f)
+
+-- and find reads the same pages
+pub point-path : (L : ℕ) (w p : List ℕ) (s : State) → Stands L w s → length p ≡ domains w → T (finite p) → findWalk L w p .read ≡ listWalk L w (windowOf (domains w) (p ++ p)) .read
+point-path L w p s h e f =
+    find-path L w (sides p p) p s h (one-point p) (finite-whole (domains w) p e f) ∙ sym (ap (λ v. listWalk L w v .read) (point-window (domains w) p e))
 
 -- the answer buffer keeps its length; with slots enough it begins with the locations and the later slots are unchanged; with too few it
 -- takes the first locations

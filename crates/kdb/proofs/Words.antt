@@ -5,16 +5,15 @@ use mathlib.Core.List.{List, [], _∷_}
 use mathlib.Core.Path.{_≡_, refl, sym, ap, ap₂, _∙_}
 use Prim.Native.Nat.{ℕ, zero, suc, _+_, _-_, _*_, _/_, _<_, _≤_}
 use native.Mathlib.Omega.{arith}
-use native.Mathlib.Nat.{suc-mul, div-mul-le-self, add-zero, sub-zero, mul-le-mul-right, le-trans}
-use native.Mathlib.Numerals.{add-one}
-use lib.Dec.{T, leb, ltb, eqb}
+use native.Mathlib.Nat.{suc-mul, div-mul-le-self, sub-zero, mul-le-mul-right, le-trans}
+use lib.Dec.{leb, eqb}
 use lib.ListN.{length, take, drop, getD}
-use lib.Seq.{drop-cons, take-take, getD-take, getD-drop, drop-drop, drop-nil, take-nil}
+use lib.Seq.{drop-cons, take-take, getD-take, getD-drop, drop-drop, take-nil}
 use borrow.Author.Tests.{eqb-true, ne-eqb, leb-true}
 use Rattle.kdb.specs.Box.{Key, sides}
 use Rattle.kdb.specs.Tree.{Rec}
-use Rattle.kdb.specs.Pages.{Ent, Page, blank, points, regions, regionsPer, pointsPer, recsIn, entsIn, isPoints, isRegions, readRecs, readEnts, readPage, page}
-use Rattle.kdb.specs.Pool.{domains, pagesIn, view}
+use Rattle.kdb.specs.Pages.{Ent, Page, blank, points, regions, regionsPer, pointsPer, recsIn, entsIn, isPoints, isRegions, readRecs, readEnts, page}
+use Rattle.kdb.specs.Pool.{domains, view}
 use Rattle.kdb.specs.Walk.{isPage, goodPoints, goodRegions}
 use Rattle.kdb.proofs.Lists.{and-t}
 

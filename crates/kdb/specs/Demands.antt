@@ -1,7 +1,8 @@
--- Demands 2 and 3 as statements, each with a field for each thing it says; `Demands` in proofs/ proves them. Demand 1 is `outcome` in
--- Calls.antt: a function of every input, with the refusals as a table.
-use mathlib.Core.Bool.{Bool, false, _&&_}
-use mathlib.Core.List.{List, _++_, map}
+-- The three demands as statements, each with a field for each thing it says; `Demands` in proofs/ proves them. That every call takes every
+-- input, and leaves every word as it does, is `outcome` in Calls.antt: a function, with the refusals as a table. `Demand1` says of the
+-- refusals that the table gives by a test, a walk or a step what they mean.
+use mathlib.Core.Bool.{Bool, true, false, _&&_}
+use mathlib.Core.List.{List, [], _∷_, _++_, map}
 use mathlib.Core.Logic.{_↔_}
 use mathlib.Core.Option.{Option, none, some}
 use mathlib.Core.Path.{_≡_}
@@ -12,21 +13,22 @@ use Rattle.kdb.specs.Lists.{only, tally, many, same}
 use Rattle.kdb.specs.Box.{Box, Key, within, inWindow, meets}
 use Rattle.kdb.specs.Tree.{Rec, State, recordsOf}
 use Rattle.kdb.specs.Steps.{removed}
-use Rattle.kdb.specs.Pool.{domains, levelsAt, pagesIn, numbers, Sound, ownRegion}
+use Rattle.kdb.specs.Pages.{page}
+use Rattle.kdb.specs.Pool.{domains, levelsAt, pagesIn, goodLength, numbers, Sound, ownRegion}
 use Rattle.kdb.specs.Print.{printed, stateOf}
 use Rattle.kdb.specs.Walk.{listWalk}
-use Rattle.kdb.specs.Calls.{L, Call, place, remove, find, list, finite, windowOf, ordered, stepped, outcome, walkOf}
+use Rattle.kdb.specs.Calls.{L, Call, format, check, place, remove, find, list, Outcome, finite, windowOf, ordered, stepped, outcome, walkOf}
 use Rattle.kdb.specs.History.{run, answers, live}
 
 -- the same records, each as often: equal counts for every test
 abbrev pub SameRecords : List Rec → List Rec → Type 0
 SameRecords a b = (g : Rec → Bool) → tally g a ≡ tally g b
 
--- the records with this key
+-- the record has this key
 abbrev pub keyed : Key → Rec → Bool
 keyed p r = same p (r .key)
 
--- the live records in the window
+-- those of the records that lie in the window
 abbrev pub inside : ℕ → List ℕ → List Rec → List Rec
 inside k v rs = only (λ r. inWindow (windowOf k v) (r .key)) rs
 
@@ -42,7 +44,7 @@ abbrev pub foundBy : List ℕ → List ℕ → List Rec
 foundBy w v = map (λ x. x .rec) (listWalk L w (windowOf (domains w) v) .found)
 
 -- list on pool w finds exactly those of the records rs that lie in the window, edges counted, each once, whatever the slots
-pub record Lists (w : List ℕ) (rs : List Rec) (v slots : List ℕ) : Type 0 where
+pub record ListsExactly (w : List ℕ) (rs : List Rec) (v slots : List ℕ) : Type 0 where
   pub done : outcome w (list v slots) .number ≡ 0
   pub exact : SameRecords (foundBy w v) (inside (domains w) v rs)
   pub total : getD (outcome w (list v slots) .values) 0 0 ≡ length (inside (domains w) v rs)
@@ -51,9 +53,19 @@ pub record Lists (w : List ℕ) (rs : List Rec) (v slots : List ℕ) : Type 0 wh
   pub few : length slots ≤ length (foundBy w v) → outcome w (list v slots) .after .answer ≡ take (length slots) (map (λ r. r .loc) (foundBy w v))
 
 -- find on pool w answers 0 with the location of the record of rs that has the point's keys, or 8 if there is none
-pub record Finds (w : List ℕ) (rs : List Rec) (p : List ℕ) : Type 0 where
+pub record FindsExactly (w : List ℕ) (rs : List Rec) (p : List ℕ) : Type 0 where
   pub here : (l : ℕ) → 1 ≤ tally (λ r. same p (r .key) && eqb l (r .loc)) rs → (outcome w (find p) .number ≡ 0) × (getD (outcome w (find p) .values) 0 0 ≡ l)
   pub absent : tally (keyed p) rs ≡ 0 → outcome w (find p) .number ≡ 8
+
+-- Demand 1, where the table gives a refusal by a test or a walk: 6 exactly on pools that are not sound; on a sound pool 7 exactly if a
+-- record has the point's keys, remove's 8 exactly if none has, and remove returns the location of the record that goes
+pub record Demand1 (w : List ℕ) : Type 0 where
+  pub six : T (goodLength L w) → (outcome w check .number ≡ 6) ↔ (Sound L w → ⊥)
+  pub seven : (work p : List ℕ) (l : ℕ) → Sound L w → T (goodPoint (domains w) p) → length work ≡ length w
+      → (outcome w (place work p l) .number ≡ 7) ↔ (1 ≤ tally (keyed p) (recordsOf (stateOf L w)))
+  pub eight : (p : List ℕ) → Sound L w → T (goodPoint (domains w) p) → (outcome w (remove p) .number ≡ 8) ↔ (tally (keyed p) (recordsOf (stateOf L w)) ≡ 0)
+  pub gone : (p : List ℕ) (l : ℕ) → Sound L w → T (goodPoint (domains w) p) → 1 ≤ tally (λ r. same p (r .key) && eqb l (r .loc)) (recordsOf (stateOf L w))
+      → (outcome w (remove p) .number ≡ 0) × (outcome w (remove p) .values ≡ l ∷ [])
 
 -- the live records after the calls, from those in the pool before them, the calls, and their answers
 abbrev pub liveAfter : List ℕ → List Call → List Rec
@@ -64,11 +76,12 @@ pub record Demand2 (w : List ℕ) (cs : List Call) : Type 0 where
   pub sound : Sound L (run w cs)
   pub contents : SameRecords (recordsOf (stateOf L (run w cs))) (liveAfter w cs)
   pub once : (p : Key) → tally (keyed p) (liveAfter w cs) ≤ 1
-  pub lists : (v slots : List ℕ) → T (goodWindow (domains (run w cs)) v) → Lists (run w cs) (liveAfter w cs) v slots
-  pub finds : (p : List ℕ) → T (goodPoint (domains (run w cs)) p) → Finds (run w cs) (liveAfter w cs) p
+  pub lists : (v slots : List ℕ) → T (goodWindow (domains (run w cs)) v) → ListsExactly (run w cs) (liveAfter w cs) v slots
+  pub finds : (p : List ℕ) → T (goodPoint (domains (run w cs)) p) → FindsExactly (run w cs) (liveAfter w cs) p
 
--- the tree is built by Robinson's steps: an accepted place or remove takes the state to the step's state and the pool to its printed form
+-- the tree is built by Robinson's steps: a format leaves no tree, and an accepted place or remove takes the state to the step's state and the pool to its printed form
 pub record ByTheSteps (w : List ℕ) : Type 0 where
+  pub formats : (k : ℕ) → outcome w (format k) .number ≡ 0 → stateOf L (outcome w (format k) .after .pool) ≡ none
   pub places : (work p : List ℕ) (l : ℕ) → outcome w (place work p l) .number ≡ 0
       → (s : State) × (stepped w (record { key = p; loc = l }) ≡ some s) × (outcome w (place work p l) .after .pool ≡ printed L (domains w) (pagesIn L w) s) × (stateOf L (outcome w (place work p l) .after .pool) ≡ s)
   pub removes : (p : List ℕ) → outcome w (remove p) .number ≡ 0
@@ -91,8 +104,37 @@ pub record Demand3 (w : List ℕ) : Type 0 where
   pub count : (v slots : List ℕ) → T (goodWindow (domains w) v)
       → getD (outcome w (list v slots) .values) 1 0 ≡ tally (λ j. met (windowOf (domains w) v) (ownRegion L w j)) (numbers L w)
   pub point : (p slots : List ℕ) → T (goodPoint (domains w) p) → getD (outcome w (list (p ++ p) slots) .values) 1 0 ≡ levelsAt w
-  pub find : (p : List ℕ) → outcome w (find p) .number ≡ 0 → getD (outcome w (find p) .values) 1 0 ≡ levelsAt w
+  pub levelled : (p : List ℕ) → outcome w (find p) .number ≡ 0 → getD (outcome w (find p) .values) 1 0 ≡ levelsAt w
+  -- find's walk, answered or refused, is that of the window of its point
+  pub path : (p slots : List ℕ) → T (goodPoint (domains w) p) → walkOf w (find p) ≡ walkOf w (list (p ++ p) slots)
 
--- Demand 3, on any words: no walk is longer than N − 1, refused walks included
-abbrev pub Bounded : List ℕ → Type 0
-Bounded w = (c : Call) → length (walkOf w c) ≤ pagesIn L w - 1
+-- Demand 3, on any words: no walk is longer than N − 1, refused walks included, and the count returned is the walk's length
+pub record Bounded (w : List ℕ) : Type 0 where
+  pub most : (c : Call) → length (walkOf w c) ≤ pagesIn L w - 1
+  pub found : (p : List ℕ) → outcome w (find p) .number ≡ 0 → getD (outcome w (find p) .values) 1 0 ≡ length (walkOf w (find p))
+  pub listed : (v slots : List ℕ) → outcome w (list v slots) .number ≡ 0 → getD (outcome w (list v slots) .values) 1 0 ≡ length (walkOf w (list v slots))
+
+-- two pools of one length, with the same header and the same pages of a list
+pub record Agree (M : ℕ) (w w′ : List ℕ) (read : List ℕ) : Type 0 where
+  pub long : length w′ ≡ length w
+  pub header : page M w′ 0 ≡ page M w 0
+  pub pages : (j : ℕ) → 1 ≤ many j read → page M w′ j ≡ page M w j
+
+-- the same number, the same values, the same answer buffer
+pub record Told (o o′ : Outcome) : Type 0 where
+  pub number : o′ .number ≡ o .number
+  pub values : o′ .values ≡ o .values
+  pub answer : o′ .after .answer ≡ o .after .answer
+
+-- the calls that have a walk
+abbrev pub walks : Call → Bool
+walks (format k) = false
+walks check = false
+walks (place work p l) = false
+walks (remove p) = false
+walks (find p) = true
+walks (list v answer) = true
+
+-- Locality: find and list depend on nothing but length, header and the pages on the list, refused calls included
+abbrev pub Local : List ℕ → List ℕ → Type 0
+Local w w′ = (c : Call) → T (walks c) → Agree L w w′ (walkOf w c) → (walkOf w′ c ≡ walkOf w c) × Told (outcome w c) (outcome w′ c)

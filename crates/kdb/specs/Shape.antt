@@ -60,7 +60,7 @@ module _ (k R P : ℕ) where
     shapedF fnil n = true
     shapedF (fcons b t f) n = shaped t n b && shapedF f n
 
--- the page numbers are of 1 to N − 1, each once
+-- the page numbers are from 1 to N − 1, each once
 pub record Numbered (N : ℕ) (ps : List ℕ) : Type 0 where
   pub inside : (c : ℕ) → 1 ≤ many c ps → (1 ≤ c) × (c < N)
   pub once : (c : ℕ) → many c ps ≤ 1

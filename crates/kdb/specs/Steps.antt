@@ -56,7 +56,8 @@ module _ (k d x : ℕ) where
     splitF fnil free = some (record { lt = fnil; rt = fnil; free = free })
     splitF (fcons b t f) free = deal (lies d x b) b t (split t (afterForced k (dom t)) free) (splitF f) free
 
--- what a page becomes: nothing, for want of a page; one page; two pages, cut along a key of a domain
+-- what a page becomes: nothing, where no page is free (on a well-formed state never for another reason: no cut, no entry that holds the
+-- point); one page; two pages, cut along a key of a domain
 pub data Up : Type 0 where
   failed : Up
   fits : Tree → List ℕ → Up
@@ -131,7 +132,7 @@ abbrev pub first : Rec → List ℕ → Option State
 first q [] = none
 first q (r ∷ free) = some (some (leaf r 0 (q ∷ [])))
 
--- the state after a record is placed, none where a page is wanting
+-- the state after a record is placed; none where a page is wanting, on a well-formed state exactly then
 abbrev pub placed : ℕ → ℕ → ℕ → ℕ → State → Rec → Option State
 placed k R P N none q = first q (freeOf N [])
 placed k R P N (some t) q = topped k (grow k R P t q (freeOf N (pagesOf (some t))))

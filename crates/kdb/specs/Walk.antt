@@ -22,7 +22,7 @@ abbrev pub spots : ℕ → ℕ → List Rec → List Spot
 spots j i [] = []
 spots j i (r ∷ rs) = record { page = j; slot = i; rec = r } ∷ spots j (suc i) rs
 
--- the pages read, whether the walk met a bad page, and the records found before that
+-- the pages read, whether the walk met a bad page or its bound, and the records found, which count only where it did not
 pub record Tour : Type 0 where
   pub read : List ℕ
   pub bad : Bool
