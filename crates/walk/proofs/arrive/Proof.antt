@@ -1,0 +1,25 @@
+use borrow.Author.Needs.{needs}
+use native.Mathlib.Omega.{arith}
+use Rattle.walk.proofs.arrive.Statement.{statement}
+use Rattle.walk.proofs.arrive.Tie as tie
+use Rattle.walk.proofs.arrive.Reads as reads
+use Rattle.walk.proofs.arrive.Lts as lts
+use Rattle.walk.proofs.is_page.Reads as is-page-reads
+
+is-page-requires : tie.Need-is-page-requires
+is-page-requires c κs = search needs
+
+add-if1 : tie.Need-add-if1
+add-if1 c = search needs
+
+add-t14 : tie.Need-add-t14
+add-t14 c = search needs
+
+returns : tie.Need-returns
+returns c = search needs
+
+returns-2 : tie.Need-returns-2
+returns-2 c = search needs
+
+pub arrive-spec : {M : Type 1} → statement M
+arrive-spec = tie.close (tie.spec is-page-requires add-if1 add-t14 returns returns-2)
