@@ -93,19 +93,25 @@ module _ (N : ℕ) (s : Tally) (out : List ℕ) (g : Fair N s) (j : ℕ) (b : To
       let last : N - 1 ≡ s .reads = omega (arith, ltb-false (s .reads + 1) N e, g .few) in after-follow N (was false) (readAt j []) b ∙ rw (e, last)
   reach false true false false e = let last : N - 1 ≡ s .reads = omega (arith, ltb-false (s .reads + 1) N e, g .few) in rw (e, last)
 
--- a walk that goes on from page j has a good page j
-pub goes-on : (n j : ℕ) (good : Bool) (s : Tally) → arrived n j good s .bad ≡ false → (leb 1 j && ltb j n ≡ true) × (good ≡ true)
-goes-on n j good s e = go (s .bad) (leb 1 j && ltb j n) (ltb (s .reads + 1) n) good e
+-- a walk that goes on from page j has a good page j, one more read, and the total that it had
+pub record GoesOn (n j : ℕ) (good : Bool) (s t : Tally) : Type 0 where
+  pub is : leb 1 j && ltb j n ≡ true
+  pub takes : good ≡ true
+  pub reads : t .reads ≡ s .reads + 1
+  pub total : t .total ≡ s .total
+
+pub goes-on : (n j : ℕ) (good : Bool) (s t : Tally) → t ≡ arrived n j good s → t .bad ≡ false → GoesOn n j good s t
+goes-on n j good s t e h = go (s .bad) (leb 1 j && ltb j n) refl (ltb (s .reads + 1) n) good refl e
   where
-    wrong : {A : Type 0} → true ≡ false → A
+    wrong : {A : Type 0} → t .bad ≡ true → A
     wrong z = absurd (let y : _≡_ {A = ℕ} 0 1 = cc in omega arith)
 
-    go : (bad is more ok : Bool) → reached s bad is more ok .bad ≡ false → (is ≡ true) × (ok ≡ true)
-    go true is more ok z = wrong z
-    go false false more ok z = wrong z
-    go false true false ok z = wrong z
-    go false true true true z = (refl, refl)
-    go false true true false z = wrong z
+    go : (bad is : Bool) → leb 1 j && ltb j n ≡ is → (more ok : Bool) → good ≡ ok → t ≡ reached s bad is more ok → GoesOn n j good s t
+    go true is p more ok q z = wrong (ap (λ u. u .bad) z)
+    go false false p more ok q z = wrong (ap (λ u. u .bad) z)
+    go false true p false ok q z = wrong (ap (λ u. u .bad) z)
+    go false true p true true q z = record { is = p; takes = q; reads = ap (λ u. u .reads) z; total = ap (λ u. u .total) z }
+    go false true p true false q z = wrong (ap (λ u. u .bad) z)
 
 -- total and slots after a record
 module _ (w : List ℕ) (k : ℕ) (v : Box) (j c e t : ℕ) (out : List ℕ) (x : ℕ × List ℕ) where
@@ -153,19 +159,23 @@ module _ (w : List ℕ) (n k : ℕ) (f : Fit w n k) (v : Box) (j : ℕ) (s : Tal
       ≡ after n (seen (arrived n j (pointWords w k j) s) out) (finds (only (λ q. inWindow v (q .rec .key)) (spots j 0 (recsIn (view L w j)))))
   leaf = reaches (isPage L w j) (goodPoints L w j) (pointWords w k j) _ (is-page w n k j f) (λ h. points-good w n k j f (sym (is-page w n k j f) ∙ h))
 
-  pub leaf-bad : arrived n j (pointWords w k j) s .bad ≡ true → stopped (arrived n j (pointWords w k j) s .reads) ≡ after n (seen s out) (tour L w v 0 j)
-  leaf-bad h = sym (leaf ∙ stays n (arrived n j (pointWords w k j) s) out _ h ∙ rw h)
+  module _ (t : Tally) (e : t ≡ arrived n j (pointWords w k j) s) where
+    leaf-from : after n (seen s out) (tour L w v 0 j) ≡ after n (seen t out) (finds (only (λ q. inWindow v (q .rec .key)) (spots j 0 (recsIn (view L w j)))))
+    leaf-from = rw e leaf
 
-  pub leaf-good : arrived n j (pointWords w k j) s .bad ≡ false → Fair n (arrived n j (pointWords w k j) s) → (r : ℕ) (out′ : List ℕ)
-      → (r, out′) ≡ foundIn w k v j (arrived n j (pointWords w k j) s .total) out
-      → going (arrived n j (pointWords w k j) s .reads) r out′ ≡ after n (seen s out) (tour L w v 0 j)
-  leaf-good h a r out′ e =
-      let z = goes-on n j (pointWords w k j) s h in
-      let t = arrived n j (pointWords w k j) s in
-      ap (λ q. going (t .reads) (q .0) (q .1)) e
-      ∙ ap (λ rs. going (t .reads) (noted (t .total) out (only (λ q. inWindow v (q .rec .key)) (spots j 0 rs)) .0) (noted (t .total) out (only (λ q. inWindow v (q .rec .key)) (spots j 0 rs)) .1))
-      (sym (point-page w n k j f (z .0) (z .1) .1))
-      ∙ sym (leaf ∙ notes n t out (only (λ q. inWindow v (q .rec .key)) (spots j 0 (recsIn (view L w j)))) h a)
+    pub leaf-bad : t .bad ≡ true → stopped (t .reads) ≡ after n (seen s out) (tour L w v 0 j)
+    leaf-bad h = sym (leaf-from ∙ stays n t out _ h ∙ rw h)
+
+    pub leaf-page : t .bad ≡ false → PointPage w k j × (recsIn (view L w j) ≡ readRecs k (wordAt w j 1) (drop (L * j + 4) w))
+    leaf-page h = let z = goes-on n j (pointWords w k j) s t e h in point-page w n k j f (z .is) (z .takes)
+
+    pub leaf-good : t .bad ≡ false → Fair n t → (r : ℕ) (out′ : List ℕ) → (r, out′) ≡ foundIn w k v j (t .total) out
+        → going (t .reads) r out′ ≡ after n (seen s out) (tour L w v 0 j)
+    leaf-good h a r out′ q =
+        ap (λ p. going (t .reads) (p .0) (p .1)) q
+        ∙ ap (λ rs. going (t .reads) (noted (t .total) out (only (λ p. inWindow v (p .rec .key)) (spots j 0 rs)) .0) (noted (t .total) out (only (λ p. inWindow v (p .rec .key)) (spots j 0 rs)) .1))
+        (sym (leaf-page h .1))
+        ∙ sym (leaf-from ∙ notes n t out (only (λ p. inWindow v (p .rec .key)) (spots j 0 (recsIn (view L w j)))) h a)
 
   -- a region page, l levels from it on
   module _ (l : ℕ) (m : 1 < l) where
@@ -178,14 +188,19 @@ module _ (w : List ℕ) (n k : ℕ) (f : Fit w n k) (v : Box) (j : ℕ) (s : Tal
         ap (λ (i : ℕ). after n (seen s out) (tour L w v i j)) q
         ∙ reaches (isPage L w j) (goodRegions L w j) (regionWords w k j) _ (is-page w n k j f) (λ h. regions-good w n k j f (sym (is-page w n k j f) ∙ h))
 
-    pub page-bad : arrived n j (regionWords w k j) s .bad ≡ true → seen (arrived n j (regionWords w k j) s) out ≡ after n (seen s out) (tour L w v (l - 1) j)
-    page-bad h = sym (page ∙ stays n (arrived n j (regionWords w k j) s) out _ h)
+    module _ (t : Tally) (e : t ≡ arrived n j (regionWords w k j) s) where
+      page-from : after n (seen s out) (tour L w v (l - 1) j) ≡ after n (seen t out) (through below v (entsIn (view L w j)))
+      page-from = rw e page
 
-    pub page-good : arrived n j (regionWords w k j) s .bad ≡ false
-        → after n (seen (arrived n j (regionWords w k j) s) out) (through below v (readEnts k (wordAt w j 1) (drop (L * j + 4) w))) ≡ after n (seen s out) (tour L w v (l - 1) j)
-    page-good h =
-        let z = goes-on n j (regionWords w k j) s h in
-        ap (λ es. after n (seen (arrived n j (regionWords w k j) s) out) (through below v es)) (sym (region-page w n k j f (z .0) (z .1) .1)) ∙ sym page
+      pub page-bad : t .bad ≡ true → seen t out ≡ after n (seen s out) (tour L w v (l - 1) j)
+      page-bad h = sym (page-from ∙ stays n t out _ h)
+
+      pub page-in : t .bad ≡ false → RegionPage w k j × (entsIn (view L w j) ≡ readEnts k (wordAt w j 1) (drop (L * j + 4) w))
+      page-in h = let z = goes-on n j (regionWords w k j) s t e h in region-page w n k j f (z .is) (z .takes)
+
+      pub page-good : t .bad ≡ false
+          → after n (seen t out) (through below v (readEnts k (wordAt w j 1) (drop (L * j + 4) w))) ≡ after n (seen s out) (tour L w v (l - 1) j)
+      page-good h = ap (λ es. after n (seen t out) (through below v es)) (sym (page-in h .1)) ∙ sym page-from
 
 -- the entries from word a on
 module _ (n k c e : ℕ) (w : List ℕ) (below : ℕ → Tour) (v : Box) (a : ℕ) (u : Tally) (out : List ℕ) (x : St) where
@@ -217,3 +232,6 @@ module _ (w : List ℕ) (n k : ℕ) (f : Fit w n k) (v : Box) (out : List ℕ) w
   walk-some z =
       rw (ne-eqb (levelsAt w) 0 z) (bound w n (tour L w v (levelsAt w - 1) (rootAt w)) out (omega (arith, f .paged .least))
       ∙ ap (λ (N : ℕ). walked out (bounded L w N (tour L w v (levelsAt w - 1) (rootAt w)))) (sym (pages w n (f .paged))))
+
+pub more-room : (n : ℕ) (b : Bool) (s : Tally) → b && ltb (s .reads + 1) n ≡ true → s .reads + 1 < n
+more-room n b s t = ltb-true (s .reads + 1) n (and-t b (ltb (s .reads + 1) n) t .1)

@@ -4,7 +4,7 @@ use mathlib.Core.List.{List}
 use mathlib.Core.Path.{_≡_, refl, sym, ap, _∙_}
 use Prim.Native.Nat.{ℕ, suc, _+_, _-_, _*_, _^_, _<_, _≤_}
 use native.Mathlib.Omega.{arith}
-use native.Mathlib.Nat.{suc-mul, mul-le-mul-right, mul-le-mul-left}
+use native.Mathlib.Nat.{suc-mul, zero-mul, mul-le-mul-right, mul-le-mul-left}
 use lib.Dec.{leb, ltb}
 use lib.ListN.{length, drop}
 use borrow.Author.Tests.{leb-true, ltb-true}
@@ -58,3 +58,10 @@ module _ (w : List ℕ) (n k j : ℕ) (g : Fit w n k) where
     point-page t =
         let z = points-in L w j (omega arith) (is-page ∙ h) (points-good ∙ t) in
         (record { few = g .few; number = omega (arith, g .paged .most, inside); room = rw (g .says) at (z .1); ends = omega (arith, g .paged .words, inside) }, z .0 ∙ ap (λ (i : ℕ). readRecs i (wordAt w j 1) (drop (L * j + 4) w)) (g .says))
+
+-- the first slot's place, and a bound on a page's count
+pub slot-first : (k j : ℕ) → pointAt k j 0 ≡ L * j + 4
+slot-first k j = omega (arith, zero-mul (k + 1))
+
+pub count-few : (w : List ℕ) (k j : ℕ) → PointPage w k j → wordAt w j 1 ≤ 28
+count-few w k j g = let s : wordAt w j 1 * 1 ≤ wordAt w j 1 * (k + 1) = mul-le-mul-left (wordAt w j 1) (omega arith) in omega (arith, g .room)

@@ -93,3 +93,11 @@ module _ (w : List ℕ) (n k : ℕ) (g : Fit w n k) (p : Key) (j r : ℕ) where
         let z : r + 1 + length (s .read) ≡ r + suc (length (s .read)) = omega arith in
         ap (λ (i : ℕ). ended i (s .end)) z
         ∙ rw (regions-good w n k j g h ∙ t, region-page w n k j g h t .1, is-page w n k j g ∙ h, into-child w p (l - 1 - 1) es) at above
+
+-- the whole search
+module _ (w : List ℕ) (p : Key) where
+  pub search-none : levelsAt w ≡ 0 → NoRoot ≡ told 0 (findWalk L w p)
+  search-none z = rw z
+
+  pub search-some : (levelsAt w ≡ 0 → ⊥) → told 0 (seek L w p (levelsAt w - 1) (rootAt w)) ≡ told 0 (findWalk L w p)
+  search-some z = rw (ne-eqb (levelsAt w) 0 z)

@@ -1,3 +1,4 @@
+use mathlib.Core.Path.{refl}
 use borrow.Author.Needs.{needs}
 use native.Mathlib.Omega.{arith}
 use Rattle.walk.proofs.region_page.Statement.{statement}
@@ -17,7 +18,7 @@ regions-per-requires : tie.Need-regions-per-requires
 regions-per-requires c κs = search needs
 
 returns : tie.Need-returns
-returns c = search needs
+returns c = rw (c .before .before .word .ensures .0, c .before .word2 .ensures .0, c .regions-per .ensures)
 
 pub region-page-spec : {M : Type 1} → statement M
 region-page-spec = tie.close (tie.spec word-requires word-requires-2 regions-per-requires returns)

@@ -1,3 +1,4 @@
+use mathlib.Core.Path.{sym, _∙_}
 use borrow.Author.Needs.{needs}
 use native.Mathlib.Omega.{arith}
 use Rattle.walk.proofs.visit.Statement.{statement}
@@ -21,13 +22,13 @@ add-result : tie.Need-add-result
 add-result c = search needs
 
 same-length : tie.Need-same-length
-same-length c = search needs
+same-length c = c .before .before .put .kept .0
 
 returns : tie.Need-returns
-returns c = search needs
+returns c = let h = sym (c .before .before .before .before .before .before .in-window .ensures) ∙ c .before .before .before .before .before .if1 .taken in (rw h, (rw (h, ← c .before .before .before .point-location .ensures .0) (c .before .before .put .ensures), omega arith))
 
 returns-2 : tie.Need-returns-2
-returns-2 c = search needs
+returns-2 c = let h = sym (c .before .in-window .ensures) ∙ c .if1 .left in (rw h, (rw h, omega arith))
 
 pub visit-spec : {M : Type 1} → statement M
 visit-spec =
