@@ -22,7 +22,8 @@ use Rattle.kdb.specs.Steps.{freeOf, afterChosen, split, Up, failed, fits
 use Rattle.kdb.proofs.Lists.{and-l, and-r, and-i, bool, by-case, is-true, is-false, to-bit, no-bit, bit-eq, bit-most, found, tally-append, every-append, same-eq, same-refl, In, in-head, in-tail, every-in, tally-only, tally-parts, tally-take, many-only, upFrom-in, upFrom-once}
 use Rattle.kdb.proofs.Tiling
 use Rattle.kdb.proofs.Tiling.{tiles-counted, counted-tiles, Inside, on, part, part-solid, two-hold, two-tile}
-use Rattle.kdb.proofs.Cut.{within-length, PointsCut, points-cut, points-rooms, points-inside, RegionsCut, regions-cut, regions-rooms, entry-length}
+use Rattle.kdb.proofs.Box.{within-length}
+use Rattle.kdb.proofs.Cut.{PointsCut, points-cut, points-rooms, points-inside, RegionsCut, regions-cut, regions-rooms, entry-length}
 use Rattle.kdb.proofs.Split.{need, half, halfF, split-some, split-none, half-records, half-pages, half-boxes, point-half, region-half, shapedF-half, shaped-levels}
 use Rattle.kdb.proofs.Fair.{FairPoints, FairRegions, FairWider, Fair, FairF}
 

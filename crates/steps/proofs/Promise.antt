@@ -15,7 +15,8 @@ use Rattle.kdb.specs.Pages.{regionsPer, pointsPer}
 use Rattle.kdb.specs.Pool.{domains, pagesIn}
 use Rattle.kdb.specs.Print.{printed, stateOf}
 use Rattle.kdb.specs.Walk.{Spot, here, findWalk}
-use Rattle.kdb.proofs.Views.{within-length, whole-length}
+use Rattle.kdb.proofs.Box.{within-length}
+use Rattle.kdb.proofs.Views.{whole-length}
 use Rattle.kdb.proofs.Stands.{Stands}
 use Rattle.kdb.proofs.Grow.{Placing, formed-fair, placed-formed, removed-formed}
 use Rattle.kdb.specs.Calls.{Call, place, remove, Outcome, gives, refuses, begins, core, placing, removing, stepped}
