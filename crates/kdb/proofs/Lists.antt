@@ -9,6 +9,13 @@ use native.Mathlib.Nat.{zero-mul, suc-mul, zero-add, suc-add, add-zero}
 use lib.ListN.{length, take, drop, getD, length-append, take-append-drop, set, replicate}
 use lib.Seq.{take-append-add, take-take, sets}
 use borrow.Author.Tests.{eq-eqb, ne-eqb}
+use mathlib.Core.Path.{_≡_, refl, sym, ap, ap₂, _∙_}
+use Prim.Native.Nat.{ℕ, zero, suc, _+_, _-_, _<_, _≤_, min}
+use native.Mathlib.Omega.{arith}
+use lib.Dec.{T, leb, ltb, eqb, leb→le, le→leb, ltb→lt, lt→ltb, nleb→lt, nltb→le, eqb→eq, eqb-refl}
+use lib.ListN.{length, take, drop, getD, set, length-append, length-set, take-append-drop, drop-of-length-le}
+use lib.Seq.{sets, sets-eq, set-out, take-all, length-take-le}
+use borrow.Author.Tests.{eq-eqb, ne-eqb, leb-true, leb-false}
 use Rattle.kdb.specs.Lists.{bit, only, tally, every, any, Each, gather, sum, many, upFrom, pad, same}
 
 -- tests
@@ -641,3 +648,32 @@ only-claimed g g′ (suc n) c r free same gone e = go (g c) refl e (λ v. only-c
     go false u v ih =
         let z : g′ c ≡ false = bool (eqb c r) (λ t. ap g′ (eqb→eq c r t) ∙ gone) (λ t. same c (no-bit (eqb c r) (T-not (eqb c r) t)) ∙ u) in
         rw z (ih v)
+
+-- runs of stores
+module _ {ℓ} {A : Type ℓ} where
+  -- a whole list stored over another of its length; what is stored past the end is lost
+  pub sets-whole : (x v : List A) → length v ≡ length x → sets x 0 v ≡ v
+  sets-whole x v e = sets-eq v x 0 (omega arith) ∙ ap (λ (l : List A). v ++ l) (drop-of-length-le x {i = 0 + length v} (omega arith)) ∙ append-nil v
+
+  pub sets-out : (x v : List A) (i : ℕ) → length x ≤ i → sets x i v ≡ x
+  sets-out x [] i h = refl
+  sets-out x (a ∷ v) i h = rw (set-out x i a h) (sets-out x v (suc i) (omega arith))
+
+  -- stores from the front on: the first fill the list, the rest of it stays
+  pub sets-fill : (x v : List A) → sets x 0 v ≡ take (length x) v ++ drop (length v) x
+  sets-fill x v = go (leb (length v) (length x)) refl
+    where
+      go : (b : Bool) → leb (length v) (length x) ≡ b → sets x 0 v ≡ take (length x) v ++ drop (length v) x
+      go true e =
+          let h : length v ≤ length x = leb-true (length v) (length x) e in
+          let z : 0 + length v ≡ length v = omega arith in
+          sets-eq v x 0 (omega arith) ∙ rw (z, take-all (length x) v h)
+      go false e =
+          let h : length x < length v = leb-false (length v) (length x) e in
+          let m = length x in
+          let l : length (take m v) ≡ m = length-take-le m v (omega arith) in
+          ap (sets x 0) (sym (take-append-drop m v))
+          ∙ sym (sets-append x 0 (take m v) (drop m v))
+          ∙ ap (λ y. sets y (0 + length (take m v)) (drop m v)) (sets-whole x (take m v) l)
+          ∙ sets-out (take m v) (drop m v) (0 + length (take m v)) (omega arith)
+          ∙ sym (ap (λ y. take m v ++ y) (drop-of-length-le x {i = length v} (omega arith)) ∙ append-nil (take m v))

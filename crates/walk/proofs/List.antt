@@ -16,7 +16,7 @@ use Rattle.kdb.specs.Pages.{readRecs, readEnts, recsIn, entsIn}
 use Rattle.kdb.specs.Pool.{levelsAt, rootAt, pagesIn, view}
 use Rattle.kdb.specs.Walk.{Spot, spots, Tour, still, astray, badAt, readAt, follow, through, isPage, goodPoints, goodRegions, tour, bounded, listWalk}
 use Rattle.kdb.specs.Calls.{L}
-use Rattle.kdb.proofs.Lists.{and-t}
+use Rattle.kdb.proofs.Lists.{and-t, sets-append}
 use Rattle.kdb.proofs.Words.{rec-turn, ent-turn}
 use Rattle.words.specs.Words.{wordAt, pointAt, pointLocation, keysOf, regionAt}
 use Rattle.words.proofs.Laws.{pages}
@@ -24,10 +24,6 @@ use Rattle.walk.specs.declared.Tally.{Tally}
 use Rattle.walk.specs.Pages.{Fit, regionWords, pointWords, RegionPage, PointPage}
 use Rattle.walk.specs.List.{St, stopped, going, seen, Fair, arrived, locations, noted, held, foundIn, after, walked}
 use Rattle.walk.proofs.Pages.{slot-next, is-page, regions-good, points-good, region-page, point-page}
-
-sets-append : (a b out : List ℕ) (i : ℕ) → sets out i (a ++ b) ≡ sets (sets out i a) (i + length a) b
-sets-append [] b out i = rw (add-zero i)
-sets-append (x ∷ a) b out i = let q : suc i + length a ≡ i + suc (length a) = omega arith in sets-append a b (set out i x) (suc i) ∙ ap (λ (n : ℕ). sets (sets (set out i x) (suc i) a) n b) q
 
 locations-append : (a b : List Spot) → locations (a ++ b) ≡ locations a ++ locations b
 locations-append [] b = refl
@@ -49,7 +45,7 @@ module _ (N r m : ℕ) (out ra : List ℕ) (fa : List Spot) where
       let reads : r + length (ra ++ rb) ≡ r + length ra + length rb = omega (arith, length-append ra rb) in
       let total : m + length (fa ++ fb) ≡ m + length fa + length fb = omega (arith, length-append fa fb) in
       let slots : sets out m (locations (fa ++ fb)) ≡ sets (sets out m (locations fa)) (m + length fa) (locations fb)
-      = rw (locations-append fa fb, sets-append (locations fa) (locations fb) out m, length-map fa (λ s. s .rec .loc)) in
+      = rw (locations-append fa fb, ← sets-append out m (locations fa) (locations fb), length-map fa (λ s. s .rec .loc)) in
       rw (reads, total, slots, e)
   after-good rb bb fb false e =
       let reads : r + length (ra ++ rb) ≡ r + length ra + length rb = omega (arith, length-append ra rb) in
