@@ -2,8 +2,9 @@
 use mathlib.Core.Bool.{Bool, true, false, _&&_, _||_, not, cond}
 use mathlib.Core.List.{List, [], _∷_, _++_, map, append-assoc}
 use mathlib.Core.Path.{_≡_, refl, sym, ap, ap₂, _∙_}
-use Prim.Native.Nat.{ℕ, zero, suc, _+_, _-_, _<_, _≤_, min}
+use Prim.Native.Nat.{ℕ, zero, suc, _+_, _-_, _*_, _<_, _≤_, min}
 use native.Mathlib.Omega.{arith}
+use native.Mathlib.Nat.{zero-mul, suc-mul}
 use lib.Dec.{T, leb, ltb, eqb, leb→le, le→leb, ltb→lt, lt→ltb, nleb→lt, nltb→le, eqb→eq, eqb-refl}
 use lib.ListN.{length, take, drop, getD, length-append}
 use borrow.Author.Tests.{eq-eqb, ne-eqb}
@@ -134,3 +135,31 @@ pub length-pad : (n : ℕ) (ws : List ℕ) → length (pad n ws) ≡ n
 length-pad zero ws = refl
 length-pad (suc n) [] = ap suc (length-pad n [])
 length-pad (suc n) (w ∷ ws) = ap suc (length-pad n ws)
+
+-- reading and printing: properties of each element, padded words, sums over the numbers from a on
+module _ {ℓ} {A : Type ℓ} where
+  pub each-map : (P Q : A → Type 0) (l : List A) → ((a : A) → P a → Q a) → Each P l → Each Q l
+  each-map P Q [] f h = tt
+  each-map P Q (a ∷ l) f h = (f a (h .0), each-map P Q l f (h .1))
+
+  pub each-two : (P Q R : A → Type 0) (l : List A) → ((a : A) → P a → Q a → R a) → Each P l → Each Q l → Each R l
+  each-two P Q R [] f h g = tt
+  each-two P Q R (a ∷ l) f h g = (f a (h .0) (g .0), each-two P Q R l f (h .1) (g .1))
+
+  pub each-every : (P : A → Type 0) (t : A → Bool) (l : List A) → ((a : A) → T (t a) → P a) → T (every t l) → Each P l
+  each-every P t [] f h = tt
+  each-every P t (a ∷ l) f h = (f a (and-l (t a) _ h), each-every P t l f (and-r (t a) _ h))
+
+  pub every-each : (P : A → Type 0) (t : A → Bool) (l : List A) → ((a : A) → P a → T (t a)) → Each P l → T (every t l)
+  every-each P t [] f h = tt
+  every-each P t (a ∷ l) f h = and-i (t a) _ (f a (h .0)) (every-each P t l f (h .1))
+
+  pub length-gather : (g : A → List ℕ) (n : ℕ) (l : List A) → Each (λ a. length (g a) ≡ n) l → length (gather g l) ≡ length l * n
+  length-gather g n [] h = omega (arith, zero-mul n)
+  length-gather g n (a ∷ l) h = length-append (g a) (gather g l) ∙ omega (arith, h .0, length-gather g n l (h .1), suc-mul (length l) n)
+
+pub pad-tail : (n : ℕ) (ws : List ℕ) → length ws ≤ n → pad n ws ≡ ws ++ pad (n - length ws) []
+pad-tail n [] h = let e : n ≡ n - 0 = omega arith in ap (λ i. pad i []) e
+pad-tail zero (a ∷ ws) h = absurd (omega arith)
+pad-tail (suc n) (a ∷ ws) h =
+    let e : n - length ws ≡ suc n - suc (length ws) = omega arith in ap (λ r. a ∷ r) (pad-tail n ws (omega arith) ∙ ap (λ i. ws ++ pad i []) e)
