@@ -5,7 +5,7 @@ use mathlib.Core.Path.{_≡_, refl, sym, ap, ap₂, _∙_}
 use Prim.Native.Nat.{ℕ, zero, suc, _+_, _-_, _*_, _<_, _≤_, min}
 use native.Mathlib.Omega.{arith}
 use native.Mathlib.Nat.{zero-mul, suc-mul}
-use lib.Dec.{T, leb, ltb, eqb, leb→le, le→leb, ltb→lt, lt→ltb, nleb→lt, nltb→le, eqb→eq, eqb-refl}
+use lib.Dec.{T, leb, ltb, eqb, leb→le, le→leb, ltb→lt, lt→ltb, nleb→lt, nltb→le, eqb→eq, eqb-refl, T-not}
 use lib.ListN.{length, take, drop, getD, length-append}
 use borrow.Author.Tests.{eq-eqb, ne-eqb}
 use Rattle.kdb.specs.Lists.{bit, only, tally, every, any, Each, gather, sum, many, upFrom, pad, same}
@@ -163,3 +163,119 @@ pad-tail n [] h = let e : n ≡ n - 0 = omega arith in ap (λ i. pad i []) e
 pad-tail zero (a ∷ ws) h = absurd (omega arith)
 pad-tail (suc n) (a ∷ ws) h =
     let e : n - length ws ≡ suc n - suc (length ws) = omega arith in ap (λ r. a ∷ r) (pad-tail n ws (omega arith) ∙ ap (λ i. ws ++ pad i []) e)
+
+-- elements, counts by several tests, and choices: for tilings, cuts and the tree's steps
+pub and-false : (a : Bool) → a && false ≡ false
+and-false true = refl
+and-false false = refl
+
+pub and-swap : (a b c : Bool) → a && (b && c) ≡ b && (a && c)
+and-swap true b c = refl
+and-swap false true c = refl
+and-swap false false c = refl
+
+-- a test that follows adds nothing
+pub and-need : (a b : Bool) → (T b → T a) → a && b ≡ b
+and-need true b f = refl
+and-need false true f = absurd (f tt)
+and-need false false f = refl
+
+pub and-never : (a b : Bool) → (T b → T (not a)) → a && b ≡ false
+and-never true true f = absurd (f tt)
+and-never true false f = refl
+and-never false b f = refl
+
+pub bit-imp : (a b : Bool) → (T a → T b) → bit a ≤ bit b
+bit-imp true true f = omega arith
+bit-imp true false f = absurd (f tt)
+bit-imp false b f = omega arith
+
+pub bit-both : (t : Bool) → bit t + bit (not t) ≡ 1
+bit-both true = refl
+bit-both false = refl
+
+-- an element of a list: each test that it passes is passed in the list
+pub record In {ℓ} {A : Type ℓ} (a : A) (l : List A) : Type ℓ where
+  pub counted : (h : A → Bool) → T (h a) → 1 ≤ tally h l
+
+module _ {ℓ} {A : Type ℓ} where
+  pub in-head : (a : A) (l : List A) → In a (a ∷ l)
+  in-head a l = record { counted = λ h t. omega (arith, to-bit (h a) t) }
+
+  pub in-tail : (a b : A) (l : List A) → In a l → In a (b ∷ l)
+  in-tail a b l m = record { counted = λ h t. omega (arith, m .counted h t) }
+
+  pub found : (f : A → Bool) (l : List A) → 1 ≤ tally f l → (a : A) × T (f a) × In a l
+  found f [] k = absurd (omega arith)
+  found f (b ∷ l) k =
+      bool (f b) (λ t. (b, t, in-head b l))
+      (λ t. let i = found f l (omega (arith, no-bit (f b) (T-not (f b) t))) in (i .0, i .1, in-tail (i .0) b l (i .2)))
+
+  pub every-none : (f : A → Bool) (l : List A) → T (every f l) → tally (λ a. not (f a)) l ≡ 0
+  every-none f [] t = refl
+  every-none f (a ∷ l) t =
+      omega (arith, no-bit (not (f a)) (λ n. T-not (f a) n (and-l (f a) _ t)), every-none f l (and-r (f a) _ t))
+
+  pub every-in : (f : A → Bool) (a : A) (l : List A) → T (every f l) → In a l → T (f a)
+  every-in f a l t m =
+      bool (f a) (λ y. y) (λ n. absurd (omega (arith, m .counted (λ b. not (f b)) n, every-none f l t)))
+
+  pub in-every : (f : A → Bool) (l : List A) → ((a : A) → In a l → T (f a)) → T (every f l)
+  in-every f [] g = tt
+  in-every f (a ∷ l) g = and-i (f a) _ (g a (in-head a l)) (in-every f l (λ b m. g b (in-tail b a l m)))
+
+  pub any-in : (f : A → Bool) (l : List A) → T (any f l) → 1 ≤ tally f l
+  any-in f [] t = absurd t
+  any-in f (a ∷ l) t =
+      bool (f a) (λ y. omega (arith, to-bit (f a) y)) (λ n. omega (arith, any-in f l (go (f a) n t)))
+    where
+      go : (b : Bool) → T (not b) → T (b || any f l) → T (any f l)
+      go true n t = absurd n
+      go false n t = t
+
+  pub in-any : (f : A → Bool) (l : List A) → 1 ≤ tally f l → T (any f l)
+  in-any f [] h = absurd (omega arith)
+  in-any f (a ∷ l) h = go (f a) h (in-any f l)
+    where
+      go : (b : Bool) → 1 ≤ bit b + tally f l → (1 ≤ tally f l → T (any f l)) → T (b || any f l)
+      go true h r = tt
+      go false h r = r (omega arith)
+
+  pub tally-imp : (f g : A → Bool) → ((a : A) → T (f a) → T (g a)) → (l : List A) → tally f l ≤ tally g l
+  tally-imp f g h [] = omega arith
+  tally-imp f g h (a ∷ l) = omega (arith, bit-imp (f a) (g a) (h a), tally-imp f g h l)
+
+  pub tally-both : (f : A → Bool) (l : List A) → tally f l + tally (λ a. not (f a)) l ≡ length l
+  tally-both f [] = refl
+  tally-both f (a ∷ l) = omega (arith, bit-both (f a), tally-both f l)
+
+  -- one test before another
+  pub tally-and : (c : Bool) (f : A → Bool) (l : List A) → tally (λ a. c && f a) l ≡ cond c (tally f l) 0
+  tally-and true f l = refl
+  tally-and false f [] = refl
+  tally-and false f (a ∷ l) = omega (arith, tally-and false f l)
+
+  -- what a test keeps passes it, and passes every test that all passed
+  pub every-only : (f g h : A → Bool) → ((a : A) → T (f a) → T (g a) → T (h a)) → (l : List A) → T (every g l) → T (every h (only f l))
+  every-only f g h i [] t = tt
+  every-only f g h i (a ∷ l) t =
+      let r = every-only f g h i l (and-r (g a) _ t) in
+      cases (λ c. T (every h (cond c (a ∷ only f l) (only f l)))) (f a) (λ y. and-i (h a) _ (i a y (and-l (g a) _ t)) r) (λ n. r)
+
+  pub tally-only : (f g : A → Bool) (l : List A) → tally g (only f l) ≤ tally g l
+  tally-only f g [] = omega arith
+  tally-only f g (a ∷ l) =
+      let r = tally-only f g l in
+      cases (λ c. tally g (cond c (a ∷ only f l) (only f l)) ≤ bit (g a) + tally g l) (f a) (λ y. omega arith) (λ n. omega arith)
+
+  -- what a test keeps and what it leaves, together
+  pub tally-halves : (f g : A → Bool) (l : List A) → tally g (only f l) + tally g (only (λ a. not (f a)) l) ≡ tally g l
+  tally-halves f g [] = refl
+  tally-halves f g (a ∷ l) =
+      let r = tally-halves f g l in
+      cases (λ c. tally g (cond c (a ∷ only f l) (only f l)) + tally g (cond (not c) (a ∷ only (λ b. not (f b)) l) (only (λ b. not (f b)) l)) ≡ bit (g a) + tally g l)
+      (f a) (λ y. omega arith) (λ n. omega arith)
+
+pub tally-map {ℓ κ} : {A : Type ℓ} {B : Type κ} (g : B → Bool) (f : A → B) (l : List A) → tally g (map f l) ≡ tally (λ a. g (f a)) l
+tally-map g f [] = refl
+tally-map g f (a ∷ l) = ap (λ n. bit (g (f a)) + n) (tally-map g f l)
