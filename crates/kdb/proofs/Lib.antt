@@ -1,8 +1,11 @@
 pub mod Lists
 pub mod Box
-pub mod Pages
 pub mod Tiling
 pub mod Fair
+pub mod Pages
+pub mod Views
 pub mod Stands
+pub mod Print
+pub mod Pool
 pub mod Cases
 pub mod Sessions

@@ -5,7 +5,7 @@ use mathlib.Core.Path.{_≡_, refl, sym, ap, ap₂, _∙_}
 use Prim.Native.Nat.{ℕ, zero, suc, _+_, _-_, _*_, _<_, _≤_, min}
 use native.Mathlib.Omega.{arith}
 use native.Mathlib.Nat.{zero-mul, suc-mul}
-use lib.Dec.{T, leb, ltb, eqb, leb→le, le→leb, ltb→lt, lt→ltb, nleb→lt, nltb→le, eqb→eq, eqb-refl, T-not}
+use lib.Dec.{T, T-not, leb, ltb, eqb, leb→le, le→leb, ltb→lt, lt→ltb, nleb→lt, nltb→le, eqb→eq, eqb-refl}
 use lib.ListN.{length, take, drop, getD, length-append}
 use borrow.Author.Tests.{eq-eqb, ne-eqb}
 use Rattle.kdb.specs.Lists.{bit, only, tally, every, any, Each, gather, sum, many, upFrom, pad, same}
@@ -163,6 +163,92 @@ pad-tail n [] h = let e : n ≡ n - 0 = omega arith in ap (λ i. pad i []) e
 pad-tail zero (a ∷ ws) h = absurd (omega arith)
 pad-tail (suc n) (a ∷ ws) h =
     let e : n - length ws ≡ suc n - suc (length ws) = omega arith in ap (λ r. a ∷ r) (pad-tail n ws (omega arith) ∙ ap (λ i. ws ++ pad i []) e)
+
+pub or-l : (a b : Bool) → T a → T (a || b)
+or-l true b t = tt
+or-l false b t = absurd t
+
+pub or-r : (a b : Bool) → T b → T (a || b)
+or-r true b t = tt
+or-r false b t = t
+
+pub some-many : (m : ℕ) → T (not (eqb m 0)) → 1 ≤ m
+some-many zero h = absurd h
+some-many (suc m) h = omega arith
+
+pub cond-case {ℓ} : {A : Type ℓ} (Q : A → Type 0) (t : Bool) (a b : A) → Q a → Q b → Q (cond t a b)
+cond-case Q true a b h g = h
+cond-case Q false a b h g = g
+
+pub zeros-pad : (l : List ℕ) (n : ℕ) → length l ≡ n → T (every (eqb 0) l) → l ≡ pad n []
+zeros-pad [] zero h z = refl
+zeros-pad [] (suc n) h z = absurd (omega arith)
+zeros-pad (a ∷ l) zero h z = absurd (omega arith)
+zeros-pad (a ∷ l) (suc n) h z = ap₂ _∷_ (sym (eqb→eq 0 a (and-l (eqb 0 a) _ z))) (zeros-pad l n (omega arith) (and-r (eqb 0 a) _ z))
+
+pub pad-zeros : (n : ℕ) → T (every (eqb 0) (pad n []))
+pad-zeros zero = tt
+pad-zeros (suc n) = pad-zeros n
+
+pub sum-same : (f g : ℕ → ℕ) → ((j : ℕ) → f j ≡ g j) → (l : List ℕ) → sum (map f l) ≡ sum (map g l)
+sum-same f g e [] = refl
+sum-same f g e (a ∷ l) = ap₂ _+_ (e a) (sum-same f g e l)
+
+pub sum-add : (f g : ℕ → ℕ) (l : List ℕ) → sum (map (λ j. f j + g j) l) ≡ sum (map f l) + sum (map g l)
+sum-add f g [] = omega arith
+sum-add f g (a ∷ l) = omega (arith, sum-add f g l)
+
+pub sum-none : (l : List ℕ) → sum (map (λ j. 0) l) ≡ 0
+sum-none [] = refl
+sum-none (a ∷ l) = omega (arith, sum-none l)
+
+sum-most : (f : ℕ → ℕ) → ((j : ℕ) → f j ≤ 1) → (n a : ℕ) → sum (map f (upFrom n a)) ≤ n
+sum-most f h zero a = omega arith
+sum-most f h (suc n) a = omega (arith, h a, sum-most f h n (suc a))
+
+sum-miss : (m p n a : ℕ) → p < a → sum (map (λ j. cond (eqb j p) m 0) (upFrom n a)) ≡ 0
+sum-miss m p zero a h = refl
+sum-miss m p (suc n) a h = rw (ne-eqb a p (λ e. omega arith)) (omega (arith, sum-miss m p n (suc a) (omega arith)))
+
+-- of the numbers from a on, p alone counts
+pub sum-hit : (m p n a : ℕ) → a ≤ p → p < a + n → sum (map (λ j. cond (eqb j p) m 0) (upFrom n a)) ≡ m
+sum-hit m p zero a h g = absurd (omega arith)
+sum-hit m p (suc n) a h g =
+    bool (eqb a p)
+    (λ t. let e = eqb→eq a p t in rw (eq-eqb a p e) (omega (arith, sum-miss m p n (suc a) (omega arith))))
+    (λ t. let ne : a ≡ p → ⊥ = λ e. T-not (eqb a p) t (of-true (eqb a p) (eq-eqb a p e)) in
+    rw (ne-eqb a p ne) (omega (arith, sum-hit m p n (suc a) (above ne) (omega arith))))
+  where
+    above : (a ≡ p → ⊥) → suc a ≤ p
+    above ne = omega arith
+
+-- every number of the list is one of the n from a on
+pub record Ranged (n a : ℕ) (ps : List ℕ) : Type 0 where
+  pub is : (c : ℕ) → 1 ≤ many c ps → (a ≤ c) × (c < a + n)
+
+sum-many : (ps : List ℕ) (n a : ℕ) → Ranged n a ps → sum (map (λ j. many j ps) (upFrom n a)) ≡ length ps
+sum-many [] n a h = sum-none (upFrom n a)
+sum-many (p ∷ ps) n a h =
+    let here = h .is p (omega (arith, self p)) in
+    let rest = sum-many ps n a (record { is = λ c i. h .is c (omega arith) }) in
+    let hit = sum-hit 1 p n a (here .0) (here .1) in
+    let same = sum-same (λ j. bit (eqb j p)) (λ j. cond (eqb j p) 1 0) (λ j. as-cond (eqb j p)) (upFrom n a) in
+    sum-add (λ j. bit (eqb j p)) (λ j. many j ps) (upFrom n a) ∙ omega arith
+  where
+    as-cond : (t : Bool) → bit t ≡ cond t 1 0
+    as-cond true = refl
+    as-cond false = refl
+
+-- different numbers, all of the n from a on, are at most n
+pub few : (ps : List ℕ) (n a : ℕ) → Ranged n a ps → ((c : ℕ) → many c ps ≤ 1) → length ps ≤ n
+few ps n a h once = omega (arith, sum-many ps n a h, sum-most (λ j. many j ps) once n a)
+
+pub getD-pad : (n : ℕ) (ws : List ℕ) (i : ℕ) → i < n → getD (pad n ws) i 0 ≡ getD ws i 0
+getD-pad zero ws i h = absurd (omega arith)
+getD-pad (suc n) [] zero h = refl
+getD-pad (suc n) [] (suc i) h = getD-pad n [] i (omega arith)
+getD-pad (suc n) (a ∷ ws) zero h = refl
+getD-pad (suc n) (a ∷ ws) (suc i) h = getD-pad n ws i (omega arith)
 
 -- elements, counts by several tests, and choices: for tilings, cuts and the tree's steps
 pub and-false : (a : Bool) → a && false ≡ false
