@@ -9,3 +9,4 @@ pub mod Print
 pub mod Pool
 pub mod Cases
 pub mod Sessions
+pub mod Words

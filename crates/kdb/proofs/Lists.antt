@@ -365,3 +365,16 @@ module _ {ℓ} {A : Type ℓ} where
 pub tally-map {ℓ κ} : {A : Type ℓ} {B : Type κ} (g : B → Bool) (f : A → B) (l : List A) → tally g (map f l) ≡ tally (λ a. g (f a)) l
 tally-map g f [] = refl
 tally-map g f (a ∷ l) = ap (λ n. bit (g (f a)) + n) (tally-map g f l)
+
+-- flags
+pub and-t : (a b : Bool) → a && b ≡ true → (a ≡ true) × (b ≡ true)
+and-t true b t = (refl, t)
+and-t false b t = (t, absurd (let z : _≡_ {A = ℕ} 0 1 = cc in omega arith))
+
+pub and-assoc : (a b c : Bool) → a && b && c ≡ a && (b && c)
+and-assoc true b c = refl
+and-assoc false b c = refl
+
+pub and-true : (a : Bool) → a && true ≡ a
+and-true true = refl
+and-true false = refl

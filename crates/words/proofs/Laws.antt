@@ -1,0 +1,86 @@
+-- The length of a pool, its header, and stores of a whole buffer, as code finds them.
+use mathlib.Core.Bool.{Bool, true, false, _&&_, _||_, not, cond}
+use mathlib.Core.List.{List, [], _∷_, _++_, append-nil}
+use mathlib.Core.Path.{_≡_, refl, sym, ap, _∙_}
+use Prim.Native.Nat.{ℕ, zero, suc, _+_, _-_, _*_, _/_, _%_, _<_, _≤_}
+use native.Mathlib.Omega.{arith}
+use native.Mathlib.Nat.{zero-add, div-le-self}
+use lib.Dec.{eqb, leb, ltb}
+use lib.ListN.{length, take, drop, getD, replicate, length-replicate, drop-of-length-le}
+use lib.Seq.{sets, sets-eq, take-length}
+use borrow.Author.Tests.{eqb-true, leb-true}
+use Rattle.kdb.specs.Lists.{bit, every}
+use Rattle.kdb.specs.Pages.{page}
+use Rattle.kdb.specs.Pool.{pagesIn, goodLength, goodHeader}
+use Rattle.kdb.specs.Calls.{L, finite}
+use Rattle.kdb.specs.Box.{∞}
+use Rattle.kdb.proofs.Lists.{and-t, is-true}
+use Rattle.kdb.proofs.Words.{keysBy, keys-by, page-rest}
+use Rattle.words.specs.Loops.{allBy}
+use Rattle.words.specs.Words.{pageCount, Paged, allZero, zeroAt, capacityOf}
+use Rattle.words.proofs.Loops.{every-by}
+use Rattle.words.proofs.Table.{at₂}
+
+pub paged : (w : List ℕ) → goodLength L w ≡ true → Paged w (pagesIn L w)
+unfolding goodLength
+paged w t =
+    let a = and-t (eqb (length w % L) 0 && leb 2 (pagesIn L w)) (leb (pagesIn L w) 512) t in
+    let b = and-t (eqb (length w % L) 0) (leb 2 (pagesIn L w)) (a .0) in
+    let z : length w % 32 ≡ 0 = eqb-true (length w % L) 0 (b .0) in
+    record { words = omega arith; least = leb-true 2 (pagesIn L w) (b .1); most = leb-true (pagesIn L w) 512 (a .1) }
+
+pub pages : (w : List ℕ) (n : ℕ) → Paged w n → pagesIn L w ≡ n
+pages w n g = let z : length w ≡ 32 * n = g .words in omega arith
+
+-- what a count of pages tells
+pub count-none : (w : List ℕ) (n : ℕ) → n ≡ pageCount w → n ≡ 0 → goodLength L w ≡ false
+count-none w n e z = go (goodLength L w) refl
+  where
+    go : (b : Bool) → goodLength L w ≡ b → goodLength L w ≡ false
+    go true t = absurd (let g = paged w t in let q : n ≡ pagesIn L w = e ∙ rw t in omega (arith, g .least))
+    go false t = t
+
+pub count-some : (w : List ℕ) (n : ℕ) → n ≡ pageCount w → (n ≡ 0 → ⊥) → (goodLength L w ≡ true) × Paged w n
+count-some w n e z = go (goodLength L w) refl
+  where
+    go : (b : Bool) → goodLength L w ≡ b → (goodLength L w ≡ true) × Paged w n
+    go true t = (t, rw (e, t) (paged w t))
+    go false t = absurd (z (e ∙ rw t))
+
+pub both : (a b : Bool) → (a && b) || (not a && not b) ≡ eqb (bit a) (bit b)
+both true true = refl
+both true false = refl
+both false true = refl
+both false false = refl
+
+pub zero-rest : (w : List ℕ) (n : ℕ) → Paged w n → allZero w 5 27 ≡ every (eqb 0) (drop 5 (page L w 0))
+zero-rest w n g =
+    let z : length w ≡ 32 * n = g .words in
+    every-by (eqb 0) 27 (λ i. getD w i 0) 5 true
+    ∙ ap (every (eqb 0)) (keys-by 27 0 5 w (λ i. getD w i 0) (λ d. ap (λ (i : ℕ). getD w i 0) (sym (zero-add d))) (omega (arith, g .least)) ∙ sym (page-rest L w 0 5))
+
+pub all-finite : (x : List ℕ) → allBy (length x) (λ n i. ltb (getD x i 0) ∞) 1 0 true ≡ finite x
+all-finite x =
+    every-by (λ v. ltb v ∞) (length x) (λ i. getD x i 0) 0 true
+    ∙ ap finite (keys-by (length x) 0 0 x (λ i. getD x i 0) (λ d. ap (λ (i : ℕ). getD x i 0) (sym (zero-add d))) (omega arith) ∙ take-length x)
+
+-- a whole buffer stored over another of its length
+pub sets-whole : (x v : List ℕ) → length v ≡ length x → sets x 0 v ≡ v
+sets-whole x v e =
+    sets-eq v x 0 (omega arith) ∙ ap (λ (l : List ℕ). v ++ l) (drop-of-length-le x {i = 0 + length v} (omega arith)) ∙ append-nil v
+
+pub cleared : (x : List ℕ) → sets x 0 (replicate (length x) 0) ≡ replicate (length x) 0
+cleared x = sets-whole x (replicate (length x) 0) (length-replicate (length x) 0)
+
+-- the rule of the table: words less 4, divided by 2K + 1 or by K + 1
+abbrev table : List (List ℕ)
+table = (9 ∷ 5 ∷ 4 ∷ 3 ∷ []) ∷ (14 ∷ 9 ∷ 7 ∷ 5 ∷ []) ∷ []
+
+pub capacities : (kind k : ℕ) → kind < 2 → 1 ≤ k → k ≤ 4 → getD (getD table kind []) (k - 1) 0 ≡ capacityOf kind k
+capacities kind k hr hl hm =
+    let e : k - 1 + 1 ≡ k = omega arith in
+    eqb-true _ _ (is-true _ (at₂ 4 (λ r i x. eqb x (capacityOf r (i + 1))) table tt kind (k - 1) hr (omega arith))) ∙ ap (capacityOf kind) e
+
+pub capacity-few : (kind k : ℕ) → capacityOf kind k ≤ 28
+capacity-few zero k = div-le-self 28 (2 * k + 1)
+capacity-few (suc kind) k = div-le-self 28 (k + 1)

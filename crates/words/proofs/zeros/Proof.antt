@@ -1,0 +1,40 @@
+use Rattle.words.proofs.Loops.{all-end, all-next}
+use Rattle.words.specs.Words.{zeroAt, allZero}
+use Rattle.words.specs.Loops.{allBy}
+use mathlib.Core.Path.{_≡_, refl}
+use Prim.Native.Nat.{_≤_, _-_}
+use borrow.Author.Needs.{needs}
+use native.Mathlib.Omega.{arith}
+use Rattle.words.proofs.zeros.Statement.{statement}
+use Rattle.words.proofs.zeros.Tie as tie
+use Rattle.words.proofs.zeros.Reads as reads
+use Rattle.words.proofs.zeros.Lts as lts
+use Rattle.words.proofs.get.Reads as get-reads
+
+abbrev Inv-loop : tie.InvT-loop
+Inv-loop pool from to ok₀ i₀ ok i = allBy (to - i) (zeroAt pool) 1 i ok ≡ allZero pool from (to - from)
+
+abbrev μ-loop : tie.MeasureT-loop
+μ-loop pool from to ok₀ i₀ ok i = to - i
+
+loop-holds : tie.Need-loop-holds Inv-loop μ-loop
+loop-holds c = refl
+
+get-requires : tie.Need-get-requires Inv-loop μ-loop
+get-requires c κs = search needs
+
+add-i : tie.Need-add-i Inv-loop μ-loop
+add-i c = search needs
+
+loop-less : tie.Need-loop-less Inv-loop μ-loop
+loop-less c = search needs
+
+loop-again : tie.Need-loop-again Inv-loop μ-loop
+loop-again c = rw (c .get .ensures .0) (all-next _ _ _ _ _ _ _ (c .before .before .loop .inv) (omega arith))
+
+returns : tie.Need-returns Inv-loop μ-loop
+returns c = all-end _ _ _ _ _ _ _ (c .before .loop .inv) (omega arith)
+
+pub zeros-spec : {M : Type 1} → statement M
+zeros-spec =
+    tie.close (tie.spec Inv-loop μ-loop loop-holds get-requires add-i loop-less loop-again returns)

@@ -1,0 +1,8 @@
+-- A loop that tests with a flag: one definition for every such loop of the code.
+use Prim.Native.Nat.{ℕ, zero, suc, _+_}
+use mathlib.Core.Bool.{Bool, _&&_}
+
+-- ok, and the test holds n times, at a, a + d, a + 2 d and so on; the test is told how many are left after it
+unfoldable pub allBy : ℕ → (ℕ → ℕ → Bool) → ℕ → ℕ → Bool → Bool
+allBy zero f d a ok = ok
+allBy (suc n) f d a ok = allBy n f d (a + d) (ok && f n a)

@@ -1,0 +1,61 @@
+-- The words that the accessors give, over a whole pool. A word past the end is 0.
+use mathlib.Core.Bool.{Bool, true, false, cond}
+use mathlib.Core.List.{List, [], _∷_}
+use mathlib.Core.Path.{_≡_}
+use Prim.Native.Nat.{ℕ, zero, suc, _+_, _-_, _*_, _≤_}
+use lib.Dec.{eqb}
+use lib.ListN.{length, getD}
+use Rattle.kdb.specs.Lists.{only, upFrom}
+use Rattle.kdb.specs.Pages.{regionsPer, pointsPer}
+use Rattle.kdb.specs.Pool.{pagesIn, goodLength}
+use Rattle.kdb.specs.Calls.{L}
+use Rattle.words.specs.Loops.{allBy}
+
+-- word i of page j
+abbrev pub wordAt : List ℕ → ℕ → ℕ → ℕ
+wordAt w j i = getD w (L * j + i) 0
+
+-- the number of pages, 0 for a pool of another length
+abbrev pub pageCount : List ℕ → ℕ
+pageCount w = cond (goodLength L w) (pagesIn L w) 0
+
+-- the pool is n pages, 2 to 512
+pub record Paged (w : List ℕ) (n : ℕ) : Type 0 where
+  pub words : length w ≡ L * n
+  pub least : 2 ≤ n
+  pub most : n ≤ 512
+
+-- the n words from a on are 0
+abbrev pub zeroAt : List ℕ → ℕ → ℕ → Bool
+zeroAt w n i = eqb 0 (getD w i 0)
+
+abbrev pub allZero : List ℕ → ℕ → ℕ → Bool
+allZero w a n = allBy n (zeroAt w) 1 a true
+
+-- R in row 0, P in row 1
+abbrev pub capacityOf : ℕ → ℕ → ℕ
+capacityOf zero k = regionsPer L k
+capacityOf (suc kind) k = pointsPer L k
+
+-- where the record in slot e of page j begins; its keys, then its location
+abbrev pub pointAt : ℕ → ℕ → ℕ → ℕ
+pointAt k j e = L * j + 4 + e * (k + 1)
+
+abbrev pub pointKey : List ℕ → ℕ → ℕ → ℕ → ℕ → ℕ
+pointKey w k j e d = getD w (pointAt k j e + d) 0
+
+abbrev pub pointLocation : List ℕ → ℕ → ℕ → ℕ → ℕ
+pointLocation w k j e = getD w (pointAt k j e + k) 0
+
+-- the first of a list, or n
+abbrev pub firstOr : ℕ → List ℕ → ℕ
+firstOr n [] = n
+firstOr n (j ∷ js) = j
+
+-- of m pages from j on, those whose kind is 0
+abbrev pub freeFrom : List ℕ → ℕ → ℕ → List ℕ
+freeFrom w m j = only (λ i. eqb (wordAt w i 0) 0) (upFrom m j)
+
+-- the lowest free page of n, or n
+abbrev pub lowestFree : List ℕ → ℕ → ℕ
+lowestFree w n = firstOr n (freeFrom w (n - 1) 1)

@@ -1,0 +1,197 @@
+// Words of a lent pool: what is read and written of a page, and nothing of the tree.
+ghost use mathlib.Core.Path.{_≡_};
+ghost use mathlib.Core.List.{List, [], _∷_};
+ghost use Prim.Native.Nat.{ℕ, _+_, _*_, _-_, _≤_, _<_, _^_};
+ghost use lib.ListN.{length, getD, set, replicate};
+ghost use lib.Seq.{sets};
+ghost use Rattle.kdb.specs.Pool.{goodHeader};
+ghost use Rattle.kdb.specs.Calls.{L, finite};
+ghost use Rattle.words.specs.Words.{wordAt, pageCount, Paged, capacityOf, pointKey, pointLocation, lowestFree, allZero};
+
+// Regions and points a page, by K from 1 to 4.
+const CAPACITIES: [[u32; 4]; 2] = [[9, 5, 4, 3], [14, 9, 7, 5]];
+
+// The word at `at`, and 0 past the end.
+pub fn get(pool: &[u32], at: usize) -> usize
+    ensures { λ r. ⌜ (r ≡ getD (now (pool .entry)) at 0) × (r < 2 ^ 32) ⌝ }
+{
+    if at < pool.len() {
+        pool[at] as usize
+    } else {
+        0
+    }
+}
+
+// Sets the word at `at`, if there is one.
+pub fn put(x: &mut [u32], at: usize, v: usize)
+    requires { ⌜ v < 2 ^ 32 ⌝ }
+    ensures { λ _. ⌜ now (x .exit) ≡ set (now (x .entry)) at v ⌝ }
+{
+    if at < x.len() {
+        x[at] = v as u32;
+    }
+}
+
+// Word i of page j, and 0 past the end.
+pub fn word(pool: &[u32], j: usize, i: usize) -> usize
+    requires { ⌜ (j < 2 ^ 32) × (i < 2 ^ 32) ⌝ }
+    ensures { λ r. ⌜ (r ≡ wordAt (now (pool .entry)) j i) × (r < 2 ^ 32) ⌝ }
+{
+    get(pool, 32 * j + i)
+}
+
+// The number of pages, or 0 where the pool is not 32 × N words, N 2 to 512.
+pub fn page_count(pool: &[u32]) -> usize
+    ensures { λ r. ⌜ r ≡ pageCount (now (pool .entry)) ⌝ }
+{
+    let len = pool.len();
+    if (len % 32 == 0) & (2 <= len / 32) & (len / 32 <= 512) {
+        len / 32
+    } else {
+        0
+    }
+}
+
+// The words from `from` to `to` are 0.
+pub fn zeros(pool: &[u32], from: usize, to: usize) -> bool
+    ensures { λ r. ⌜ r ≡ allZero (now (pool .entry)) from (to - from) ⌝ }
+{
+    let mut ok = true;
+    let mut i = from;
+    while i < to {
+        ok = ok & (0 == get(pool, i));
+        i += 1;
+    }
+    ok
+}
+
+// The header of a pool of n pages is good.
+pub fn good_header(pool: &[u32], n: usize) -> bool
+    requires { ⌜ Paged (now pool) n ⌝ }
+    ensures { λ r. ⌜ r ≡ goodHeader L (now (pool .entry)) ⌝ }
+{
+    let k = get(pool, 0);
+    let root = get(pool, 2);
+    let levels = get(pool, 3);
+    (1 <= k)
+        & (k <= 4)
+        & (get(pool, 1) == n)
+        & (root < n)
+        & (levels <= n - 1)
+        & (((root == 0) & (levels == 0)) | ((root != 0) & (levels != 0)))
+        & zeros(pool, 5, 32)
+}
+
+// No word is the word that stands for ∞.
+pub fn all_finite(x: &[u32]) -> bool
+    ensures { λ r. ⌜ r ≡ finite (now (x .entry)) ⌝ }
+{
+    let mut ok = true;
+    let mut i: usize = 0;
+    while i < x.len() {
+        ok = ok & (get(x, i) < 4294967295);
+        i += 1;
+    }
+    ok
+}
+
+// R for kind 0 and P for kind 1.
+fn capacity(kind: usize, k: usize) -> usize
+    requires { ⌜ (kind < 2) × ((1 ≤ k) × (k ≤ 4)) ⌝ }
+    ensures { λ r. ⌜ r ≡ capacityOf kind k ⌝ }
+{
+    CAPACITIES[kind][k - 1] as usize
+}
+
+// Regions a page.
+pub fn regions_per(k: usize) -> usize
+    requires { ⌜ (1 ≤ k) × (k ≤ 4) ⌝ }
+    ensures { λ r. ⌜ r ≡ capacityOf 0 k ⌝ }
+{
+    capacity(0, k)
+}
+
+// Points a page.
+pub fn points_per(k: usize) -> usize
+    requires { ⌜ (1 ≤ k) × (k ≤ 4) ⌝ }
+    ensures { λ r. ⌜ r ≡ capacityOf 1 k ⌝ }
+{
+    capacity(1, k)
+}
+
+// The key in domain d of the record in a slot of point page j.
+pub fn point_key(pool: &[u32], k: usize, j: usize, slot: usize, d: usize) -> usize
+    requires { ⌜ (k ≤ 4) × ((j < 2 ^ 32) × ((slot < 2 ^ 32) × (d ≤ 4))) ⌝ }
+    ensures { λ r. ⌜ (r ≡ pointKey (now (pool .entry)) k j slot d) × (r < 2 ^ 32) ⌝ }
+{
+    get(pool, 32 * j + 4 + slot * (k + 1) + d)
+}
+
+// The location of the record in a slot of point page j.
+pub fn point_location(pool: &[u32], k: usize, j: usize, slot: usize) -> usize
+    requires { ⌜ (k ≤ 4) × ((j < 2 ^ 32) × (slot < 2 ^ 32)) ⌝ }
+    ensures { λ r. ⌜ (r ≡ pointLocation (now (pool .entry)) k j slot) × (r < 2 ^ 32) ⌝ }
+{
+    get(pool, 32 * j + 4 + slot * (k + 1) + k)
+}
+
+// The lower end in domain d of the region entry at word `at`.
+pub fn lower_end(pool: &[u32], at: usize, d: usize) -> usize
+    requires { ⌜ (at < 2 ^ 40) × (d ≤ 4) ⌝ }
+    ensures { λ r. ⌜ (r ≡ getD (now (pool .entry)) (at + d) 0) × (r < 2 ^ 32) ⌝ }
+{
+    get(pool, at + d)
+}
+
+// The upper end in domain d of the region entry at word `at`.
+pub fn upper_end(pool: &[u32], k: usize, at: usize, d: usize) -> usize
+    requires { ⌜ (k ≤ 4) × ((at < 2 ^ 40) × (d ≤ 4)) ⌝ }
+    ensures { λ r. ⌜ (r ≡ getD (now (pool .entry)) (at + k + d) 0) × (r < 2 ^ 32) ⌝ }
+{
+    get(pool, at + k + d)
+}
+
+// The child's number in the region entry at word `at`.
+pub fn child(pool: &[u32], k: usize, at: usize) -> usize
+    requires { ⌜ (k ≤ 4) × (at < 2 ^ 40) ⌝ }
+    ensures { λ r. ⌜ (r ≡ getD (now (pool .entry)) (at + 2 * k) 0) × (r < 2 ^ 32) ⌝ }
+{
+    get(pool, at + 2 * k)
+}
+
+// Copies a buffer over another, as far as that goes.
+pub fn copy(to: &mut [u32], from: &[u32])
+    ensures { λ _. ⌜ now (to .exit) ≡ sets (now (to .entry)) 0 (now (from .entry)) ⌝ }
+{
+    let mut i: usize = 0;
+    while i < from.len() {
+        put(to, i, get(from, i));
+        i += 1;
+    }
+}
+
+// Zeroes the words from `from` to `to`.
+pub fn clear(x: &mut [u32], from: usize, to: usize)
+    ensures { λ _. ⌜ now (x .exit) ≡ sets (now (x .entry)) from (replicate (to - from) 0) ⌝ }
+{
+    let mut i = from;
+    while i < to {
+        put(x, i, 0);
+        i += 1;
+    }
+}
+
+// The page to claim: the lowest from 1 to n - 1 whose kind is 0, or n.
+pub fn lowest_free(pool: &[u32], n: usize) -> usize
+    requires { ⌜ (1 ≤ n) × (n < 2 ^ 32) ⌝ }
+    ensures { λ r. ⌜ (r ≡ lowestFree (now (pool .entry)) n) × (r ≤ n) ⌝ }
+{
+    let mut j: usize = 1;
+    while j < n {
+        if word(pool, j, 0) == 0 {
+            return j;
+        }
+        j += 1;
+    }
+    j
+}
