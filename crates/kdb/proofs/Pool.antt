@@ -14,14 +14,14 @@ use borrow.Author.Tests.{eq-eqb, ne-eqb}
 use Rattle.kdb.specs.Lists.{bit, every, any, Each, gather, sum, many, upFrom, pad, same}
 use Rattle.kdb.specs.Box.{∞, Box, whole, within, solid}
 use Rattle.kdb.specs.Tiling.{Tiles, Together, Apart}
-use Rattle.kdb.specs.Tree.{Rec, Tree, leaf, node, Forest, fnil, fcons, State, root, boxes, levels, pages, pagesF, records, pagesOf, recordsOf}
+use Rattle.kdb.specs.Tree.{Rec, Tree, leaf, node, Forest, fnil, fcons, State, root, boxes, levels, levelsF, pages, pagesF, records, pagesOf, recordsOf}
 use Rattle.kdb.specs.Shape.{differ, PointPage, RegionPage, Shaped, ShapedF, pointPage, regionPage, shaped, shapedF, Numbered, numbered, ShapedS, shapedS, WellFormed, wellFormed}
-use Rattle.kdb.specs.Pages.{Ent, Page, blank, points, regions, regionsPer, pointsPer, domain, recsIn, entsIn, boxesIn, isPoints, isRegions, inUse, printPage, readPage, page}
+use Rattle.kdb.specs.Pages.{Ent, Page, blank, points, regions, regionsPer, pointsPer, domain, recsIn, entsIn, boxesIn, isPoints, isRegions, inUse, printPage, readRecs, readEnts, readPage, page}
 use Rattle.kdb.specs.Pool.{domains, rootAt, levelsAt, countAt, pagesIn, goodLength, goodHeader, view, numbers, reachedFrom, reached, Paths, Sound}
 use Rattle.kdb.specs.Print.{ents, pageOf, pageAt, header, forest, printed, treeAt, stateOf, sound}
-use Rattle.kdb.proofs.Lists.{bool, and-l, and-r, and-i, is-true, is-false, of-true, self, to-bit, same-eq, same-refl, cond-case, every-each, each-every, zeros-pad, pad-zeros, getD-pad, length-pad, sum-same, sum-none}
+use Rattle.kdb.proofs.Lists.{bool, and-l, and-r, and-i, is-true, is-false, of-true, of-bit, self, to-bit, same-eq, same-refl, cond-case, every-each, each-every, each-two, zeros-pad, pad-zeros, getD-pad, length-pad, sum-same, sum-none}
 use Rattle.kdb.proofs.Tiling.{tiles-iff}
-use Rattle.kdb.proofs.Pages.{page-length, page-full, pool-ext, word-at, recs-keys, points-fit}
+use Rattle.kdb.proofs.Pages.{page-length, page-full, pool-ext, word-at, length-recs, recs-keys, points-fit}
 use Rattle.kdb.proofs.Views.{Seen, SeenF, own-seen, page-out, page-in, in-use, among, page-case, boxes-ents, ents-boxes, Under, whole-under, finite-whole, whole-finite, sum-records, recsAt}
 use Rattle.kdb.proofs.Stands.{rootOf, levelsOf, Stands}
 use Rattle.kdb.proofs.Print.{numbered-ranged, some-levels, levels-few, print-length, print-header, print-page, print-word, stands, stands-seen, stands-tree, stands-state}
@@ -401,3 +401,240 @@ module _ (L : ℕ) (w : List ℕ) where
         counted = stands-counted s h;
         rootless = stands-rootless s h;
       }
+
+-- the other way: the tree that sound words say
+is-points : (v : Page) → T (isPoints v) → v ≡ points (domain v) (recsIn v)
+is-points blank h = absurd h
+is-points (points d rs) h = refl
+is-points (regions d es) h = absurd h
+
+is-regions : (v : Page) → T (isRegions v) → v ≡ regions (domain v) (entsIn v)
+is-regions blank h = absurd h
+is-regions (points d rs) h = absurd h
+is-regions (regions d es) h = refl
+
+not-used : (v : Page) → (T (inUse v) → ⊥) → v ≡ blank
+not-used blank h = refl
+not-used (points d rs) h = absurd (h tt)
+not-used (regions d es) h = absurd (h tt)
+
+-- the keys read from a page of L words with room for them
+read-keys : (L i : ℕ) (ws : List ℕ) → length ws ≡ L → length (recsIn (readPage i ws)) ≤ pointsPer L i → Each (λ r. length (r .key) ≡ i) (recsIn (readPage i ws))
+read-keys L i ws long =
+    let rs = readRecs i (getD ws 1 0) (drop 4 ws) in
+    let es = readEnts i (getD ws 1 0) (drop 4 ws) in
+    cond-case (λ v. length (recsIn v) ≤ pointsPer L i → Each (λ r. length (r .key) ≡ i) (recsIn v)) (eqb (getD ws 0 0) 1)
+    (regions (getD ws 2 0) es) (cond (eqb (getD ws 0 0) 2) (points (getD ws 2 0) rs) blank)
+    (λ h. tt)
+    (cond-case (λ v. length (recsIn v) ≤ pointsPer L i → Each (λ r. length (r .key) ≡ i) (recsIn v)) (eqb (getD ws 0 0) 2) (points (getD ws 2 0) rs) blank
+    (λ h. let e = length-recs i (getD ws 1 0) (drop 4 ws) in
+    recs-keys i (getD ws 1 0) (drop 4 ws) (let f = points-fit L i (getD ws 1 0) (subst (λ n. n ≤ pointsPer L i) e h) in let g = length-drop 4 ws in omega arith))
+    (λ h. tt))
+
+module _ (L : ℕ) (w : List ℕ) where
+  root-at : (n j : ℕ) → root (treeAt L w n j) ≡ j
+  root-at zero j = refl
+  root-at (suc n) j = refl
+
+  ents-at-page : (n : ℕ) (es : List Ent) → ents (forest (treeAt L w n) es) ≡ es
+  ents-at-page n [] = refl
+  ents-at-page n (e ∷ es) = ap₂ _∷_ (ap (λ (c : ℕ). record { box = e .box; child = c }) (root-at n (e .child))) (ents-at-page n es)
+
+  boxes-at-page : (n : ℕ) (es : List Ent) → boxes (forest (treeAt L w n) es) ≡ map (λ e. e .box) es
+  boxes-at-page n [] = refl
+  boxes-at-page n (e ∷ es) = ap (λ l. e .box ∷ l) (boxes-at-page n es)
+
+  view-outside : (j : ℕ) → T (inUse (view L w j)) → (1 ≤ j) × (j < pagesIn L w)
+  view-outside j =
+      bool (leb 1 j && ltb j (pagesIn L w))
+      (λ t u. (leb→le 1 j (and-l (leb 1 j) _ t), ltb→lt j (pagesIn L w) (and-r (leb 1 j) _ t)))
+      (λ t u. absurd (let e : T false = subst (λ c. T (inUse (cond c (readPage (domains w) (page L w j)) blank))) (is-false (leb 1 j && ltb j (pagesIn L w)) t) u in e))
+
+  seen-forest-at : (n : ℕ) → ((j : ℕ) → Paths L w n j → Seen (view L w) (treeAt L w n j)) → (es : List Ent) → Each (λ e. Paths L w n (e .child)) es → SeenF (view L w) (forest (treeAt L w n) es)
+  seen-forest-at n g [] h = tt
+  seen-forest-at n g (e ∷ es) h = (g (e .child) (h .0), seen-forest-at n g es (h .1))
+
+  seen-at : (n j : ℕ) → Paths L w n j → Seen (view L w) (treeAt L w n j)
+  seen-at zero j h = is-points (view L w j) h
+  seen-at (suc n) j h =
+      (is-regions (view L w j) (h .0) ∙ ap (regions (domain (view L w j))) (sym (ents-at-page n (entsIn (view L w j)))), seen-forest-at n (seen-at n) (entsIn (view L w j)) (h .1))
+
+  -- page j in region r, as an entry's child or the root is
+  record Owned (j : ℕ) (r : Box) : Type 0 where
+    together : T (isRegions (view L w j)) → Together r (boxesIn (view L w j))
+    inside : T (every (λ q. within r (q .key)) (recsIn (view L w j)))
+
+module _ (L : ℕ) (w : List ℕ) (S : Sound L w) where
+  levels-forest : (n : ℕ) → ((j : ℕ) → Paths L w n j → levels (treeAt L w n j) ≡ suc n) → (es : List Ent) → 1 ≤ length es → Each (λ e. Paths L w n (e .child)) es → levelsF (forest (treeAt L w n) es) ≡ suc n
+  levels-forest n g [] l h = absurd (omega arith)
+  levels-forest n g (e ∷ es) l h = g (e .child) (h .0)
+
+  levels-at : (n j : ℕ) → Paths L w n j → levels (treeAt L w n j) ≡ suc n
+  levels-at zero j h = refl
+  levels-at (suc n) j h = ap suc (levels-forest n (levels-at n) (entsIn (view L w j)) (S .filled j (h .0)) (h .1))
+
+  shape-forest : (n : ℕ) → ((j : ℕ) (r : Box) → Paths L w n j → Owned L w j r → Shaped (domains w) (regionsPer L (domains w)) (pointsPer L (domains w)) (treeAt L w n j) n r)
+      → (es : List Ent) → Each (λ e. Paths L w n (e .child)) es → Each (λ e. T (isRegions (view L w (e .child))) → Together (e .box) (boxesIn (view L w (e .child)))) es
+      → Each (λ e. T (every (λ q. within (e .box) (q .key)) (recsIn (view L w (e .child))))) es → ShapedF (domains w) (regionsPer L (domains w)) (pointsPer L (domains w)) (forest (treeAt L w n) es) n
+  shape-forest n g [] p a b = tt
+  shape-forest n g (e ∷ es) p a b = (g (e .child) (e .box) (p .0) (record { together = a .0; inside = b .0 }), shape-forest n g es (p .1) (a .1) (b .1))
+
+  shape-at : (n j : ℕ) (r : Box) → Paths L w n j → Owned L w j r → Shaped (domains w) (regionsPer L (domains w)) (pointsPer L (domains w)) (treeAt L w n j) n r
+  shape-at zero j r p o = (refl, record { room = S .pointRoom j; domain = S .splitting j; inside = o .inside; distinct = S .distinct j })
+  shape-at (suc n) j r p o =
+      let es = entsIn (view L w j) in
+      let e = boxes-at-page L w n es in
+      let l : length (boxesIn (view L w j)) ≡ length es = length-map es (λ e. e .box) in (
+        rw e (record {
+          filled = omega (arith, S .filled j (p .0));
+          room = subst (λ m. m ≤ regionsPer L (domains w)) (sym l) (S .regionRoom j);
+          domain = S .splitting j;
+          tiled = record { solids = S .solids j; apart = S .apart j; together = o .together (p .0) };
+        }),
+        shape-forest n (shape-at n) es (p .1) (S .nested j) (S .inside j),
+      )
+
+  view-keys : 5 ≤ L → (j : ℕ) → Each (λ r. length (r .key) ≡ domains w) (recsIn (view L w j))
+  view-keys big j =
+      let g = length-iff L w .0 (S .words) in
+      let v = readPage (domains w) (page L w j) in
+      let Q : Page → Type 0 = λ a. length (recsIn a) ≤ pointsPer L (domains w) → Each (λ r. length (r .key) ≡ domains w) (recsIn a) in
+      let q : Q (view L w j) =
+      bool (leb 1 j && ltb j (pagesIn L w))
+      (λ t. subst (λ c. Q (cond c v blank)) (sym (is-true (leb 1 j && ltb j (pagesIn L w)) t))
+      (read-keys L (domains w) (page L w j) (page-full L w (pagesIn L w) j (g .long) (ltb→lt j (pagesIn L w) (and-r (leb 1 j) _ t)))))
+      (λ t. subst (λ c. Q (cond c v blank)) (sym (is-false (leb 1 j && ltb j (pagesIn L w)) t)) (λ h. tt)) in
+      q (S .pointRoom j)
+
+  root-owned : 5 ≤ L → Owned L w (rootAt w) (whole (domains w))
+  root-owned big =
+      let j = rootAt w in
+      let rs = recsIn (view L w j) in
+      record {
+        together = S .space;
+        inside = every-each (λ q. T (within (whole (domains w)) (q .key))) (λ q. within (whole (domains w)) (q .key)) rs (λ q h. h)
+            (each-two (λ q. length (q .key) ≡ domains w) (λ q. T (every (λ x. ltb x ∞) (q .key))) (λ q. T (within (whole (domains w)) (q .key))) rs
+            (λ q a b. finite-whole (domains w) (q .key) a b) (view-keys big j)
+            (each-every (λ q. T (every (λ x. ltb x ∞) (q .key))) (λ q. every (λ x. ltb x ∞) (q .key)) rs (λ q h. h) (S .finite j)));
+      }
+
+  -- words with a good length, a header that says the state, and the state's pages are its printed form
+  printed-pages : 5 ≤ L → (s : State) → WellFormed L (domains w) (pagesIn L w) s → rootAt w ≡ rootOf s → levelsAt w ≡ levelsOf s → countAt w ≡ length (recordsOf s)
+      → ((j : ℕ) → view L w j ≡ pageAt s j) → Stands L w s
+  printed-pages big s wf r l c v =
+      stands-printed L big w s wf (pool-ext L N w (printed L k N s) (g .long) (print-length L k N s big wf) each)
+    where
+      k : ℕ
+      k = domains w
+
+      N : ℕ
+      N = pagesIn L w
+
+      g : GoodLength L w
+      g = length-iff L w .0 (S .words)
+
+      hd : GoodHeader L w
+      hd = header-iff L w .0 (S .header)
+
+      word : (i : ℕ) → i < 5 → getD (page L w 0) i 0 ≡ getD w i 0
+      word i h = let e : L * 0 + i ≡ i = omega (arith, mul-zero L) in word-at L w 0 i (omega arith) ∙ ap (λ m. getD w m 0) e
+
+      top : page L w 0 ≡ pad L (header k N s)
+      top =
+          let full : length (page L w 0) ≡ L = page-full L w N 0 (g .long) (omega (arith, g .least)) in
+          let zs : drop 5 (page L w 0) ≡ pad (L - 5) [] = zeros-pad (drop 5 (page L w 0)) (L - 5) (length-drop 5 (page L w 0) ∙ omega arith) (hd .zeros) in
+          five-words (page L w 0) (omega arith)
+          ∙ (ap₂ _∷_ (word 0 (omega arith)) (ap₂ _∷_ (word 1 (omega arith) ∙ hd .size) (ap₂ _∷_ (word 2 (omega arith) ∙ r) (ap₂ _∷_ (word 3 (omega arith) ∙ l) (ap₂ _∷_ (word 4 (omega arith) ∙ c) zs))))
+          ∙ sym (header-words L k N s big))
+
+      each : (j : ℕ) → j < N → page L w j ≡ page L (printed L k N s) j
+      each zero h = top ∙ sym (print-header L k N s big wf)
+      each (suc j) h = S .laid (suc j) (omega arith) h ∙ (ap (printPage L) (v (suc j)) ∙ sym (print-page L k N s big wf (suc j) (omega arith) h))
+
+  -- the number of levels is zero exactly if the root is
+  no-root : levelsAt w ≡ 0 → rootAt w ≡ 0
+  no-root z =
+      let b : bit (eqb (rootAt w) 0) ≡ bit (eqb (levelsAt w) 0) = header-iff L w .0 (S .header) .both in
+      eqb→eq (rootAt w) 0 (of-bit (eqb (rootAt w) 0) (let e : bit (eqb (levelsAt w) 0) ≡ 1 = rw z in omega arith))
+
+  none-stands : 5 ≤ L → levelsAt w ≡ 0 → Stands L w none
+  none-stands big z =
+      let g = length-iff L w .0 (S .words) in
+      let hd = header-iff L w .0 (S .header) in
+      let e = no-root z in
+      let q = S .rootless e in
+      printed-pages big none
+      (record { domains = (hd .least, hd .most); pages = (g .least, g .most); numbered = record { inside = λ c i. absurd (omega arith); once = λ c. omega arith }; shape = tt })
+      e z (q .0) (q .1)
+
+  tree-stands : 5 ≤ L → (levelsAt w ≡ 0 → ⊥) → Stands L w (some (treeAt L w (levelsAt w - 1) (rootAt w)))
+  tree-stands big z =
+      printed-pages big (some t)
+      (record { domains = (hd .least, hd .most); pages = (g .least, g .most); numbered = num; shape = subst (λ m. Shaped (domains w) (regionsPer L (domains w)) (pointsPer L (domains w)) t m (whole (domains w))) (omega (arith, lv)) shape })
+      (sym (root-at L w n j)) (omega (arith, lv)) count views
+    where
+      n : ℕ
+      n = levelsAt w - 1
+
+      j : ℕ
+      j = rootAt w
+
+      t : Tree
+      t = treeAt L w n j
+
+      g : GoodLength L w
+      g = length-iff L w .0 (S .words)
+
+      hd : GoodHeader L w
+      hd = header-iff L w .0 (S .header)
+
+      lv : levels t ≡ suc n
+      lv = levels-at n j (S .paths z)
+
+      rc : reached L w ≡ pages t
+      rc = rw (ne-eqb (levelsAt w) 0 z) (reached-tree L w n j)
+
+      num : Numbered (pagesIn L w) (pages t)
+      num = record { inside = λ c i. view-outside L w c (S .used c .1 (rw rc i)); once = λ c. rw (sym rc) (S .once c) }
+
+      shape : Shaped (domains w) (regionsPer L (domains w)) (pointsPer L (domains w)) t n (whole (domains w))
+      shape = shape-at n j (whole (domains w)) (S .paths z) (root-owned big)
+
+      views : (c : ℕ) → view L w c ≡ pageAt (some t) c
+      views c =
+          among c (pages t) (own-seen (view L w) t (seen-at L w n j (S .paths z)) c)
+          (λ o. not-used (view L w c) (λ u. let i : 1 ≤ many c (pages t) = rw (sym rc) (S .used c .0 u) in omega arith) ∙ sym (page-out t c o))
+
+      count : countAt w ≡ length (records t)
+      count =
+          S .counted ∙ (sum-same (recsAt (view L w)) (recsAt (pageOf t)) (λ c. ap (λ a. length (recsIn a)) (views c)) (numbers L w)
+          ∙ sum-records t (pagesIn L w - 1) 1 (numbered-ranged (pagesIn L w) (pages t) num) (num .once))
+
+  pub Sound-stands : 5 ≤ L → Stands L w (stateOf L w)
+  Sound-stands big =
+      bool (eqb (levelsAt w) 0)
+      (λ t. rw (is-true (eqb (levelsAt w) 0) t) (none-stands big (eqb→eq (levelsAt w) 0 t)))
+      (λ t. let z : levelsAt w ≡ 0 → ⊥ = λ e. T-not (eqb (levelsAt w) 0) t (of-true (eqb (levelsAt w) 0) (eq-eqb (levelsAt w) 0 e)) in
+      rw (is-false (eqb (levelsAt w) 0) t) (tree-stands big z))
+
+-- the test, the record and the printed form say the same
+pub sound-iff : (L : ℕ) → 5 ≤ L → (w : List ℕ) → T (sound L w) ↔ Sound L w
+sound-iff L big w = (
+  λ h. stands-Sound L w big (stateOf L w) (sound-stands L big w h),
+  λ h. let s = Sound-stands L w h big in subst (λ v. T (sound L v)) (sym (s .prints)) (print-sound L (domains w) (pagesIn L w) (stateOf L w) big (s .formed)),
+)
+
+-- words that are the printed form of a well-formed state, of any number of domains and pages
+pub record IsPrinted (L : ℕ) (w : List ℕ) : Type 0 where
+  pub domains : ℕ
+  pub size : ℕ
+  pub state : State
+  pub formed : WellFormed L domains size state
+  pub prints : w ≡ printed L domains size state
+
+pub printed-iff : (L : ℕ) → 5 ≤ L → (w : List ℕ) → Sound L w ↔ IsPrinted L w
+printed-iff L big w = (
+  λ h. let s = Sound-stands L w h big in record { domains = getD w 0 0; size = pagesIn L w; state = stateOf L w; formed = s .formed; prints = s .prints },
+  λ h. subst (Sound L) (sym (h .prints))
+      (stands-Sound L (printed L (h .domains) (h .size) (h .state)) big (h .state) (stands L (h .domains) (h .size) (h .state) big (h .formed))),
+)
