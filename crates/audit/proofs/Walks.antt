@@ -14,7 +14,7 @@ use Rattle.kdb.specs.Box.{Box}
 use Rattle.kdb.specs.Pages.{Ent, Page, blank, points, regions, recsIn, entsIn, isPoints, isRegions, regionsPer, pointsPer, domain, boxesIn}
 use Rattle.kdb.specs.Shape.{pointPage, regionPage}
 use Rattle.kdb.specs.Pool.{domains, pagesIn, view, reachedFrom}
-use Rattle.kdb.proofs.Lists.{and-l, and-r, and-i, bool, is-true, is-false, of-true}
+use Rattle.kdb.proofs.Lists.{and-l, and-r, and-i, bool, is-true, is-false, of-true, sum-append}
 use Rattle.audit.specs.declared.Seen.{Seen}
 use Rattle.audit.specs.Walk.{Way, spoilt, calm, through, laidOut, soundPoints, soundRegions, fresh, leafOf, pageOf}
 use Rattle.audit.proofs.Marks.{Marks, done, next, marks-append, marks-nil, marks-split, First, first}
@@ -26,10 +26,6 @@ case false f g = g refl
 
 pub true-false {ℓ} : {C : Type ℓ} → true ≡ false → C
 true-false e = absurd (let z : _≡_ {A = ℕ} 0 1 = cc in omega arith)
-
-sum-append : (f : ℕ → ℕ) (l m : List ℕ) → sum (map f (l ++ m)) ≡ sum (map f l) + sum (map f m)
-sum-append f [] m = sym (zero-add (sum (map f m)))
-sum-append f (a ∷ l) m = omega (arith, sum-append f l m)
 
 no-recs : (v : Page) → T (isRegions v) → length (recsIn v) ≡ 0
 no-recs blank t = refl
