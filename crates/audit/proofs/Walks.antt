@@ -27,8 +27,8 @@ case false f g = g refl
 pub true-false {ℓ} : {C : Type ℓ} → true ≡ false → C
 true-false e = absurd (let z : _≡_ {A = ℕ} 0 1 = cc in omega arith)
 
-no-recs : (v : Page) → T (isRegions v) → length (recsIn v) ≡ 0
-no-recs blank t = refl
+pub no-recs : (v : Page) → T (isRegions v) → recsIn v ≡ []
+no-recs blank t = absurd t
 no-recs (points d rs) t = absurd t
 no-recs (regions d es) t = refl
 
@@ -135,7 +135,7 @@ module _ (L : ℕ) (w : List ℕ) where
         calmly = f .calmly;
         good = (rw d at t, g .good);
         marks = next (f .some) (f .page) (f .clear) (g .marks);
-        count = omega (arith, g .count, no-recs (view L w j) (regions-are j r t));
+        count = omega (arith, g .count, ap length (no-recs (view L w j) (regions-are j r t)));
       }))
       (λ d. true-false (rw d at (rw e at h))))
       (λ e. true-false (rw e at h))
@@ -176,4 +176,4 @@ module _ (L : ℕ) (w : List ℕ) where
   page-runs (suc l) j r left left′ m m′ g k c =
       let f = first k in
       rw (fresh-is j m left (f .some) (f .page) (f .clear), is-true (soundRegions L w j r) (g .0))
-      (entries-run l (page-runs l) (entsIn (view L w j)) left left′ (set m j 1) m′ (g .1) (f .more) (omega (arith, c, no-recs (view L w j) (regions-are j r (g .0)))))
+      (entries-run l (page-runs l) (entsIn (view L w j)) left left′ (set m j 1) m′ (g .1) (f .more) (omega (arith, c, ap length (no-recs (view L w j) (regions-are j r (g .0))))))

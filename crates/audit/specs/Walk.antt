@@ -22,6 +22,10 @@ spoilt left = record { bad = true; left = left }
 abbrev pub calm : ℕ → Seen
 calm left = record { bad = false; left = left }
 
+-- a mark for each of 512 pages
+abbrev pub unmarked : List ℕ
+unmarked = replicate 512 0
+
 -- entry by entry
 unfoldable pub through : (Ent → Seen → List ℕ → Way) → List Ent → Seen → List ℕ → Way
 through step [] s m = (s, m)
@@ -73,10 +77,6 @@ module _ (L : ℕ) (w : List ℕ) where
 
   unfoldable pub restOf : List ℕ → Bool
   restOf m = every (freeOf m) (numbers L w)
-
-  -- a mark for each of 512 pages
-  abbrev pub unmarked : List ℕ
-  unmarked = replicate 512 0
 
   unfoldable pub audited : Bool
   audited = let t = walkOf unmarked in not (t .0 .bad) && eqb (t .0 .left) 0 && restOf (t .1)
