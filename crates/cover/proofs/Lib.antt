@@ -1,0 +1,4 @@
+pub mod Tests
+pub mod Tile
+pub mod Turns
+pub mod Pieces
