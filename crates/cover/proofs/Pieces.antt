@@ -80,7 +80,7 @@ module _ (c : Piece) (i v : ℕ) (h : i < 4) (f : Full c) where
       record {
         full = record { low = f .low; high = length-set (c .hi) i _ ∙ f .high };
         others = λ j n. ap (λ (x : ℕ). record { lo = getD (c .lo) j 0; hi = x }) (getD-set-other (c .hi) i j (min (getD (c .hi) i 0) v) 0 n);
-        here = ap (λ (x : ℕ). record { lo = getD (c .lo) i 0; hi = x }) (getD-set-same (c .hi) i (min (getD (c .hi) i 0) v) 0 (omega (arith, f .high)))
+        here = ap (λ (x : ℕ). record { lo = getD (c .lo) i 0; hi = x }) (getD-set-same (c .hi) i (min (getD (c .hi) i 0) v) 0 (omega (arith, f .high)));
       }
 
   cut-above : Cut i c (aboveOf c i v) (record { lo = max (getD (c .lo) i 0) v; hi = getD (c .hi) i 0 })
@@ -88,7 +88,7 @@ module _ (c : Piece) (i v : ℕ) (h : i < 4) (f : Full c) where
       record {
         full = record { low = length-set (c .lo) i _ ∙ f .low; high = f .high };
         others = λ j n. ap (λ (x : ℕ). record { lo = x; hi = getD (c .hi) j 0 }) (getD-set-other (c .lo) i j (max (getD (c .lo) i 0) v) 0 n);
-        here = ap (λ (x : ℕ). record { lo = x; hi = getD (c .hi) i 0 }) (getD-set-same (c .lo) i (max (getD (c .lo) i 0) v) 0 (omega (arith, f .low)))
+        here = ap (λ (x : ℕ). record { lo = x; hi = getD (c .hi) i 0 }) (getD-set-same (c .lo) i (max (getD (c .lo) i 0) v) 0 (omega (arith, f .low)));
       }
 
 cut-clip : (c : Piece) (i v w : ℕ) → i < 4 → Full c → Cut i c (clipOf c i v w) (record { lo = max (getD (c .lo) i 0) v; hi = min (getD (c .hi) i 0) w })
@@ -98,7 +98,7 @@ cut-clip c i v w h f =
     record {
       full = b .full;
       others = λ j n. b .others j n ∙ a .others j n;
-      here = b .here ∙ ap (λ (s : Side). record { lo = s .lo; hi = min (getD (c .hi) i 0) w }) (a .here)
+      here = b .here ∙ ap (λ (s : Side). record { lo = s .lo; hi = min (getD (c .hi) i 0) w }) (a .here);
     }
 
 -- a region with one side among others is not empty exactly if that side is not and the others are not
@@ -126,8 +126,8 @@ module _ (es : List Box) (f : Piece → Bool) (p : List ℕ) (k a : ℕ) (few : 
       let box : boxOf k d ≡ pre ++ (s ∷ more) = place k m i c d (q .others) e ∙ ap (λ (x : Side). pre ++ (x ∷ more)) (q .here) in
       bool t
       (λ y. ap (λ b. cond b (f d) true) (is-true t y)
-        ∙ good d (q .full) (subst (λ (b : Box). T (solid b)) (sym box) (mid-in pre (sideOf c i) s more (subst (λ (b : Box). T (solid b)) whole so) (full y)))
-        ∙ ap (covers es) box)
+      ∙ good d (q .full) (subst (λ (b : Box). T (solid b)) (sym box) (mid-in pre (sideOf c i) s more (subst (λ (b : Box). T (solid b)) whole so) (full y)))
+      ∙ ap (covers es) box)
       (λ n. ap (λ b. cond b (f d) true) (is-false t n) ∙ sym (gone es pre s more (none n)))
 
   pieces-are : (m : ℕ) (c : Piece) (i : ℕ) → i + m ≡ k → Full c → T (solid (boxOf k c))
@@ -145,9 +145,9 @@ module _ (es : List Box) (f : Piece → Bool) (p : List ℕ) (k a : ℕ) (few : 
       let four : i < 4 = omega arith in
       let xy : x < y = mid-is pre (sideOf c i) more (subst (λ (b : Box). T (solid b)) (place k m i c c (λ j n. refl) at) so) in
       let lo = part-is m i c (belowOf c i v) (record { lo = x; hi = min y v }) (ltb x v) at (cut-below c i v four l) so
-        (λ t. let h = ltb→lt x v t in omega arith) (λ t. let h = nltb→le x v t in omega arith) in
+      (λ t. let h = ltb→lt x v t in omega arith) (λ t. let h = nltb→le x v t in omega arith) in
       let hi = part-is m i c (aboveOf c i w) (record { lo = max x w; hi = y }) (ltb w y) at (cut-above c i w four l) so
-        (λ t. let h = ltb→lt w y t in omega arith) (λ t. let h = nltb→le w y t in omega arith) in
+      (λ t. let h = ltb→lt w y t in omega arith) (λ t. let h = nltb→le w y t in omega arith) in
       let d = clipOf c i v w in
       let s : Side = record { lo = max x v; hi = min y w } in
       let q = cut-clip c i v w four l in
@@ -155,25 +155,25 @@ module _ (es : List Box) (f : Piece → Bool) (p : List ℕ) (k a : ℕ) (few : 
       let dl : getD (d .lo) i 0 ≡ max x v = ap (λ (z : Side). z .lo) (q .here) in
       let dh : getD (d .hi) i 0 ≡ min y w = ap (λ (z : Side). z .hi) (q .here) in
       let tail : cond (leb (getD (d .hi) i 0) (getD (d .lo) i 0)) true (piecesBy f m p k a d (i + 1)) ≡ every (λ b. covers es (pre ++ b)) (fronted s rest) =
-        bool (leb (getD (d .hi) i 0) (getD (d .lo) i 0))
-        (λ t. let h = leb→le (getD (d .hi) i 0) (getD (d .lo) i 0) t in
-          ap (λ z. cond z true (piecesBy f m p k a d (i + 1))) (is-true (leb (getD (d .hi) i 0) (getD (d .lo) i 0)) t)
-          ∙ sym (every-fronted (λ b. covers es (pre ++ b)) s rest ∙ every-true (λ b. covers es (pre ++ (s ∷ b))) (λ b. gone es pre s b (omega arith)) rest))
-        (λ t. let h = nleb→lt (getD (d .hi) i 0) (getD (d .lo) i 0) t in
-          let box : boxOf k d ≡ pre ++ (s ∷ more) = place k m i c d (q .others) at ∙ ap (λ (z : Side). pre ++ (z ∷ more)) (q .here) in
-          let sd : T (solid (boxOf k d)) =
-            subst (λ (b : Box). T (solid b)) (sym box)
-            (mid-in pre (sideOf c i) s more (subst (λ (b : Box). T (solid b)) (place k m i c c (λ j n. refl) at) so) (omega arith)) in
-          let r1 : sidesBy m (sideOf d) (i + 1) ≡ more = sides-after m c d i (i + 1) (q .others) (omega arith) in
-          let r2 : sidesBy (i + 1) (sideOf d) 0 ≡ pre ++ (s ∷ []) = place (i + 1) 0 i c d (q .others) (omega arith) ∙ ap (λ (z : Side). pre ++ (z ∷ [])) (q .here) in
-          ap (λ z. cond z true (piecesBy f m p k a d (i + 1))) (is-false (leb (getD (d .hi) i 0) (getD (d .lo) i 0)) t)
-          ∙ pieces-are m d (i + 1) (omega arith) (q .full) sd
-          ∙ ap (λ b. every (λ g. covers es (sidesBy (i + 1) (sideOf d) 0 ++ g)) (minus b (sidesBy m (sideAt p k a) (i + 1)))) r1
-          ∙ every-same (λ g. covers es (sidesBy (i + 1) (sideOf d) 0 ++ g)) (λ g. covers es (pre ++ (s ∷ g)))
-            (λ g. ap (λ b. covers es (b ++ g)) r2 ∙ ap (covers es) (append-assoc pre (s ∷ []) g)) rest
-          ∙ sym (every-fronted (λ b. covers es (pre ++ b)) s rest)) in
+      bool (leb (getD (d .hi) i 0) (getD (d .lo) i 0))
+      (λ t. let h = leb→le (getD (d .hi) i 0) (getD (d .lo) i 0) t in
+      ap (λ z. cond z true (piecesBy f m p k a d (i + 1))) (is-true (leb (getD (d .hi) i 0) (getD (d .lo) i 0)) t)
+      ∙ sym (every-fronted (λ b. covers es (pre ++ b)) s rest ∙ every-true (λ b. covers es (pre ++ (s ∷ b))) (λ b. gone es pre s b (omega arith)) rest))
+      (λ t. let h = nleb→lt (getD (d .hi) i 0) (getD (d .lo) i 0) t in
+      let box : boxOf k d ≡ pre ++ (s ∷ more) = place k m i c d (q .others) at ∙ ap (λ (z : Side). pre ++ (z ∷ more)) (q .here) in
+      let sd : T (solid (boxOf k d)) =
+      subst (λ (b : Box). T (solid b)) (sym box)
+      (mid-in pre (sideOf c i) s more (subst (λ (b : Box). T (solid b)) (place k m i c c (λ j n. refl) at) so) (omega arith)) in
+      let r1 : sidesBy m (sideOf d) (i + 1) ≡ more = sides-after m c d i (i + 1) (q .others) (omega arith) in
+      let r2 : sidesBy (i + 1) (sideOf d) 0 ≡ pre ++ (s ∷ []) = place (i + 1) 0 i c d (q .others) (omega arith) ∙ ap (λ (z : Side). pre ++ (z ∷ [])) (q .here) in
+      ap (λ z. cond z true (piecesBy f m p k a d (i + 1))) (is-false (leb (getD (d .hi) i 0) (getD (d .lo) i 0)) t)
+      ∙ pieces-are m d (i + 1) (omega arith) (q .full) sd
+      ∙ ap (λ b. every (λ g. covers es (sidesBy (i + 1) (sideOf d) 0 ++ g)) (minus b (sidesBy m (sideAt p k a) (i + 1)))) r1
+      ∙ every-same (λ g. covers es (sidesBy (i + 1) (sideOf d) 0 ++ g)) (λ g. covers es (pre ++ (s ∷ g)))
+      (λ g. ap (λ b. covers es (b ++ g)) r2 ∙ ap (covers es) (append-assoc pre (s ∷ []) g)) rest
+      ∙ sym (every-fronted (λ b. covers es (pre ++ b)) s rest)) in
       cond-and (cond (ltb x v) (f (belowOf c i v)) true) (cond (ltb w y) (f (aboveOf c i w)) true)
-        (cond (leb (getD (d .hi) i 0) (getD (d .lo) i 0)) true (piecesBy f m p k a d (i + 1)))
+      (cond (leb (getD (d .hi) i 0) (getD (d .lo) i 0)) true (piecesBy f m p k a d (i + 1)))
       ∙ ap₂ _&&_ lo (ap₂ _&&_ hi tail)
 
 pub cover-is : (n : ℕ) (p : List ℕ) (k a : ℕ) (c : Piece) → k ≤ 4 → Full c → T (solid (boxOf k c)) → coverOf n p k a c ≡ covers (boxesAt n p k a) (boxOf k c)

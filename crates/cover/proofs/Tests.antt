@@ -42,7 +42,7 @@ pub box-is : (w : List ℕ) (k a : ℕ) → a + 2 * k ≤ length w → boxAt w k
 box-is w k a h =
     sides-by k (λ i. getD w (a + i) 0) (λ i. getD w (a + k + i) 0) 0
     ∙ ap₂ sides (keys-by k a 0 w (λ i. getD w (a + i) 0) (λ d. refl) (omega arith) ∙ ap (λ (n : ℕ). take k (drop n w)) (add-zero a))
-      (keys-by k (a + k) 0 w (λ i. getD w (a + k + i) 0) (λ d. refl) (omega arith) ∙ ap (λ (n : ℕ). take k (drop n w)) (add-zero (a + k)))
+    (keys-by k (a + k) 0 w (λ i. getD w (a + k + i) 0) (λ d. refl) (omega arith) ∙ ap (λ (n : ℕ). take k (drop n w)) (add-zero (a + k)))
 
 pub boxes-are : (n : ℕ) (w : List ℕ) (k a : ℕ) → a + n * (2 * k + 1) ≤ length w → boxesAt n w k a ≡ regionsIn k n w a
 boxes-are zero w k a h = refl

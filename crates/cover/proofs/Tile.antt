@@ -26,7 +26,7 @@ in-side s t h =
     record {
       some = ltb→lt (s .lo) (s .hi) (and-l (ltb (s .lo) (s .hi)) _ c);
       low = leb→le (t .lo) (s .lo) (and-r (ltb (s .lo) (s .hi)) _ c);
-      high = leb→le (s .hi) (t .hi) (and-r (ltb (s .lo) (s .hi) && leb (t .lo) (s .lo)) _ h)
+      high = leb→le (s .hi) (t .hi) (and-r (ltb (s .lo) (s .hi) && leb (t .lo) (s .lo)) _ h);
     }
 
 side-in : (s t : Side) → InSide s t → T (insideSide s t)
@@ -50,7 +50,7 @@ inside-says (s ∷ e) (z ∷ r) t =
     record {
       inner = and-i (ltb (s .lo) (s .hi)) _ (lt→ltb (s .lo) (s .hi) (i .some)) (m .inner);
       outer = and-i (ltb (z .lo) (z .hi)) _ (lt→ltb (z .lo) (z .hi) (omega arith)) (m .outer);
-      keys = λ p h. keys p i (m .keys) h
+      keys = λ p h. keys p i (m .keys) h;
     }
   where
     keys : (p : Key) → InSide s z → ((q : Key) → T (within e q) → T (within r q)) → T (within (s ∷ e) p) → T (within (z ∷ r) p)
@@ -114,7 +114,7 @@ fit-three r (e ∷ es) t =
     record {
       solids = and-i (solid e) _ (i .inner) (m .solids);
       parted = and-i (every (λ c. not (share e c)) es) _ (rw (clear-apart e es (i .inner) (m .solids)) at (and-r (insideOf e r) _ h)) (m .parted);
-      inner = and-i (covers (r ∷ []) e) _ (covered-inside e r i) (m .inner)
+      inner = and-i (covers (r ∷ []) e) _ (covered-inside e r i) (m .inner);
     }
 
 three-fit : (r : Box) (bs : List Box) → Three r bs → T (fitting r bs)

@@ -8,9 +8,9 @@ use Rattle.cover.specs.declared.Piece.{Piece}
 
 abbrev pub takenOf : List ℕ → ℕ → ℕ → Piece
 takenOf q b k = record {
-    lo = getD q (b + 0) 0 ∷ getD q (b + 1) 0 ∷ getD q (b + 2) 0 ∷ getD q (b + 3) 0 ∷ [];
-    hi = getD q (b + k + 0) 0 ∷ getD q (b + k + 1) 0 ∷ getD q (b + k + 2) 0 ∷ getD q (b + k + 3) 0 ∷ []
-  }
+  lo = getD q (b + 0) 0 ∷ getD q (b + 1) 0 ∷ getD q (b + 2) 0 ∷ getD q (b + 3) 0 ∷ [];
+  hi = getD q (b + k + 0) 0 ∷ getD q (b + k + 1) 0 ∷ getD q (b + k + 2) 0 ∷ getD q (b + k + 3) 0 ∷ [];
+}
 
 -- b with domain i below v, and from v on
 abbrev pub belowOf : Piece → ℕ → ℕ → Piece

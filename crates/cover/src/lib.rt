@@ -34,7 +34,9 @@ pub fn share(p: &[u32], k: usize, a: usize, b: usize) -> bool
     let mut ok = true;
     let mut i: usize = 0;
     while i < k {
-        ok = ok & ((lower_end(p, a, i) < upper_end(p, k, b, i)) & (lower_end(p, b, i) < upper_end(p, k, a, i)));
+        ok = ok
+            & ((lower_end(p, a, i) < upper_end(p, k, b, i))
+                & (lower_end(p, b, i) < upper_end(p, k, a, i)));
         i += 1;
     }
     ok
@@ -83,8 +85,18 @@ pub fn taken(q: &[u32], b: usize, k: usize) -> Piece
     requires { ⌜ (b < 2 ^ 40) × (k ≤ 4) ⌝ }
     ensures { λ r. ⌜ r ≡ takenOf (now (q .entry)) b k ⌝ }
 {
-    let lo: [usize; 4] = [lower_end(q, b, 0), lower_end(q, b, 1), lower_end(q, b, 2), lower_end(q, b, 3)];
-    let hi: [usize; 4] = [upper_end(q, k, b, 0), upper_end(q, k, b, 1), upper_end(q, k, b, 2), upper_end(q, k, b, 3)];
+    let lo: [usize; 4] = [
+        lower_end(q, b, 0),
+        lower_end(q, b, 1),
+        lower_end(q, b, 2),
+        lower_end(q, b, 3),
+    ];
+    let hi: [usize; 4] = [
+        upper_end(q, k, b, 0),
+        upper_end(q, k, b, 1),
+        upper_end(q, k, b, 2),
+        upper_end(q, k, b, 3),
+    ];
     Piece { lo, hi }
 }
 

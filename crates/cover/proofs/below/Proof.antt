@@ -22,7 +22,7 @@ element-write-c : tie.Need-element-write-c
 element-write-c c = search needs
 
 returns : tie.Need-returns
-returns c = search needs
+returns c = rw (c .least .ensures)
 
 pub below-spec : {M : Type 1} → statement M
 below-spec =

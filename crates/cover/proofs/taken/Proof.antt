@@ -32,7 +32,7 @@ upper-end-requires-4 : tie.Need-upper-end-requires-4
 upper-end-requires-4 c κs = search needs
 
 returns : tie.Need-returns
-returns c = search needs
+returns c = rw (c .upper-end4 .ensures .0, c .before .upper-end3 .ensures .0, c .before .before .upper-end2 .ensures .0, c .before .before .before .upper-end .ensures .0, c .before .before .before .before .lower-end4 .ensures .0, c .before .before .before .before .before .lower-end3 .ensures .0, c .before .before .before .before .before .before .lower-end2 .ensures .0, c .before .before .before .before .before .before .before .lower-end .ensures .0)
 
 pub taken-spec : {M : Type 1} → statement M
 taken-spec =
