@@ -24,6 +24,7 @@ use Rattle.kdb.proofs.Stands.{Stands}
 use Rattle.kdb.proofs.Pool.{point-says, says-point, region-says, says-region, GoodLength, GoodHeader, length-iff, header-iff, boxes-at-page, view-outside, Sound-stands, sound-iff}
 use Rattle.audit.specs.declared.Seen.{Seen}
 use Rattle.audit.specs.Walk.{Way, calm, laidOut, soundPoints, soundRegions, pageOf, walkOf, freeOf, restOf, unmarked, audited}
+use Rattle.audit.proofs.Here.{PointsHere, RegionsHere, points-say, say-points, regions-say, say-regions}
 use Rattle.audit.proofs.Marks.{Marks, done, marks-nil, Adds, adds, marks-inside, marks}
 use Rattle.audit.proofs.Walks.{case, no-recs, Shown, recsAt, pointsOn, Good, page-shows, page-runs}
 
@@ -54,58 +55,9 @@ not-used (points d rs) f = absurd (f tt)
 not-used (regions d es) f = absurd (f tt)
 
 module _ (L : ℕ) (w : List ℕ) where
-  -- what the two tests of a page say
-  record PointsHere (j : ℕ) (r : Box) : Type 0 where
-    laid : page L w j ≡ printPage L (view L w j)
-    is : T (isPoints (view L w j))
-    shape : PointPage (domains w) (pointsPer L (domains w)) (domain (view L w j)) (recsIn (view L w j)) r
-
-  record RegionsHere (j : ℕ) (r : Box) : Type 0 where
-    laid : page L w j ≡ printPage L (view L w j)
-    is : T (isRegions (view L w j))
-    shape : RegionPage (domains w) (regionsPer L (domains w)) (domain (view L w j)) (boxesIn (view L w j)) r
-
-  points-say : (j : ℕ) (r : Box) → T (soundPoints L w j r) → PointsHere j r
-  unfolding soundPoints
-  points-say j r t =
-      let v = view L w j in
-      let u = and-l (laidOut L w j && isPoints v) _ t in
-      record {
-        laid = same-eq (page L w j) (printPage L v) (and-l (laidOut L w j) _ u);
-        is = and-r (laidOut L w j) _ u;
-        shape = point-says (domains w) (regionsPer L (domains w)) (pointsPer L (domains w)) (domain v) (recsIn v) r (and-r (laidOut L w j && isPoints v) _ t);
-      }
-
-  say-points : (j : ℕ) (r : Box) → PointsHere j r → T (soundPoints L w j r)
-  unfolding soundPoints
-  say-points j r h =
-      let v = view L w j in
-      and-i (laidOut L w j && isPoints v) _
-      (and-i (laidOut L w j) _ (subst (λ (x : List ℕ). T (same x (printPage L v))) (sym (h .laid)) (same-refl (printPage L v))) (h .is))
-      (says-point (domains w) (regionsPer L (domains w)) (pointsPer L (domains w)) (domain v) (recsIn v) r (h .shape))
-
-  regions-say : (j : ℕ) (r : Box) → T (soundRegions L w j r) → RegionsHere j r
-  unfolding soundRegions
-  regions-say j r t =
-      let v = view L w j in
-      let u = and-l (laidOut L w j && isRegions v) _ t in
-      record {
-        laid = same-eq (page L w j) (printPage L v) (and-l (laidOut L w j) _ u);
-        is = and-r (laidOut L w j) _ u;
-        shape = region-says (domains w) (regionsPer L (domains w)) (pointsPer L (domains w)) (domain v) (boxesIn v) r (and-r (laidOut L w j && isRegions v) _ t);
-      }
-
-  say-regions : (j : ℕ) (r : Box) → RegionsHere j r → T (soundRegions L w j r)
-  unfolding soundRegions
-  say-regions j r h =
-      let v = view L w j in
-      and-i (laidOut L w j && isRegions v) _
-      (and-i (laidOut L w j) _ (subst (λ (x : List ℕ). T (same x (printPage L v))) (sym (h .laid)) (same-refl (printPage L v))) (h .is))
-      (says-region (domains w) (regionsPer L (domains w)) (pointsPer L (domains w)) (domain v) (boxesIn v) r (h .shape))
-
   -- page j is a good page of region r; page j is good, and so are the pages that its entries name
   abbrev Held : ℕ → Box → Type 0
-  Held j r = PointsHere j r ⊎ RegionsHere j r
+  Held j r = PointsHere L w j r ⊎ RegionsHere L w j r
 
   record Met (j : ℕ) : Type 0 where
     region : Box
@@ -114,8 +66,8 @@ module _ (L : ℕ) (w : List ℕ) where
     below : Each (λ e. Held (e .child) (e .box)) (entsIn (view L w j))
 
   good-held : (l j : ℕ) (r : Box) → Good L w l j r → Held j r
-  good-held zero j r g = inl (points-say j r g)
-  good-held (suc l) j r g = inr (regions-say j r (g .0))
+  good-held zero j r g = inl (points-say L w j r g)
+  good-held (suc l) j r g = inr (regions-say L w j r (g .0))
 
   -- what is said of each of a list of regions is said of the entries
   each-box : (P : Box → Type 0) (es : List Ent) → Each P (map (λ e. e .box) es) → Each (λ e. P (e .box)) es
@@ -124,13 +76,13 @@ module _ (L : ℕ) (w : List ℕ) where
 
   good-own : (l j : ℕ) (r : Box) → Under (domains w) r → Good L w l j r → Met j
   good-own zero j r u g =
-      let p = points-say j r g in
+      let p = points-say L w j r g in
       record { region = r; under = u; held = inl p; below = rw (no-ents (view L w j) (p .is)) tt }
   good-own (suc l) j r u g =
       record {
         region = r;
         under = u;
-        held = inr (regions-say j r (g .0));
+        held = inr (regions-say L w j r (g .0));
         below = each-map (λ e. Good L w l (e .child) (e .box)) (λ e. Held (e .child) (e .box)) (entsIn (view L w j)) (λ e. good-held l (e .child) (e .box)) (g .1);
       }
 
@@ -154,13 +106,13 @@ module _ (L : ℕ) (w : List ℕ) where
   good-met zero j r u g i h = here-or zero j i r u g (λ z. absurd (omega arith))
   good-met (suc l) j r u g i h =
       here-or (suc l) j i r u g (λ z. entries-met l (good-met l) (entsIn (view L w j))
-      (each-box (Under (domains w)) (entsIn (view L w j)) (tiles-under (domains w) r (boxesIn (view L w j)) u (regions-say j r (g .0) .shape .tiled)))
+      (each-box (Under (domains w)) (entsIn (view L w j)) (tiles-under (domains w) r (boxesIn (view L w j)) u (regions-say L w j r (g .0) .shape .tiled)))
       (g .1) i (omega arith))
 
   good-paths : (l j : ℕ) (r : Box) → Good L w l j r → Paths L w l j
-  good-paths zero j r g = points-say j r g .is
+  good-paths zero j r g = points-say L w j r g .is
   good-paths (suc l) j r g = (
-    regions-say j r (g .0) .is,
+    regions-say L w j r (g .0) .is,
     each-map (λ e. Good L w l (e .child) (e .box)) (λ e. Paths L w l (e .child)) (entsIn (view L w j)) (λ e. good-paths l (e .child) (e .box)) (g .1),
   )
 

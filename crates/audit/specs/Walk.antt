@@ -11,6 +11,7 @@ use Rattle.kdb.specs.Pages.{Ent, regionsPer, pointsPer, domain, recsIn, entsIn,
 use Rattle.kdb.specs.Shape.{pointPage, regionPage}
 use Rattle.kdb.specs.Pool.{domains, rootAt, levelsAt, countAt, pagesIn, view, numbers}
 use Rattle.audit.specs.declared.Seen.{Seen}
+use Rattle.audit.specs.Tests.{freshOf}
 
 -- what a walk has met, and the marks
 abbrev pub Way : Type 0
@@ -48,9 +49,8 @@ module _ (L : ℕ) (w : List ℕ) where
       laidOut j && isRegions (view L w j)
       && regionPage (domains w) (regionsPer L (domains w)) (pointsPer L (domains w)) (domain (view L w j)) (boxesIn (view L w j)) r
 
-  -- no page was bad, and j is the number of a page that was not met
   abbrev pub fresh : ℕ → List ℕ → Seen → Bool
-  fresh j m s = not (s .bad) && not (eqb j 0) && ltb j (pagesIn L w) && eqb (getD m j 0) 0
+  fresh j m s = freshOf (pagesIn L w) j m s
 
   -- the points of page j are found
   unfoldable pub leafOf : ℕ → Box → ℕ → Seen
