@@ -5,7 +5,7 @@ use mathlib.Core.Logic.{_↔_}
 use mathlib.Core.Path.{_≡_, refl, sym, ap, ap₂, _∙_, subst}
 use Prim.Native.Nat.{ℕ, zero, suc, _+_, _-_, _*_, _<_, _≤_}
 use native.Mathlib.Omega.{arith}
-use native.Mathlib.Nat.{suc-mul, zero-mul, zero-add, add-zero, div-le-self}
+use native.Mathlib.Nat.{suc-mul, zero-mul, zero-add, add-zero, sub-zero, div-le-self}
 use native.Mathlib.Numerals.{add-one}
 use lib.Dec.{T, leb, ltb, eqb, leb→le, le→leb, ltb→lt, lt→ltb, eqb→eq, eqb-refl}
 use lib.ListN.{length, take, drop, getD, length-drop, length-map}
@@ -31,6 +31,7 @@ use Rattle.cover.specs.Boxes.{regionsIn}
 use Rattle.audit.specs.Tests.{keyIn, keysIn, alone, scattered, headOf, Held, Numbered}
 use Rattle.audit.specs.Walk.{soundPoints, soundRegions}
 use Rattle.audit.proofs.Laying.{recs-words, ents-words, Laid, layout-iff}
+use Rattle.audit.proofs.Turns.{Room}
 use Rattle.audit.proofs.Here.{PointsHere, RegionsHere, points-say, say-points, regions-say, say-regions}
 
 -- keys in slots are the keys of the records
@@ -327,17 +328,11 @@ module _ (w : List ℕ) (n j : ℕ) (g : Paged w n) (i : Numbered n j) where
       let p = points-say L w j r (of-true (soundPoints L w j r) t) in
       sym (ap (λ x. length (recsIn x)) (points-view (points-kind (p .is))) ∙ length-recs k (wordAt w j 1) (drop 4 ws))
 
-  pub record Entries : Type 0 where
-    pub fits : L * j + 4 + wordAt w j 1 * (2 * k + 1) ≤ L * j + L
-    pub few : wordAt w j 1 ≤ L
-    pub are : readEnts k (wordAt w j 1) (drop (L * j + 4) w) ≡ entsIn (view L w j)
-
-  pub regions-entries : (r : Box) → soundRegions L w j r ≡ true → Entries
+  regions-entries : (r : Box) → soundRegions L w j r ≡ true → RegionView
   regions-entries r t =
       let p = regions-say L w j r (of-true (soundRegions L w j r) t) in
       let e = regions-kind (p .is) in
-      let v = region-view e (omega (arith, regions-many e, p .shape .room)) in
-      record { fits = omega (arith, v .fits); few = omega (arith, v .room, div-le-self (L - 4) (2 * k + 1)); are = sym (v .ents) }
+      region-view e (omega (arith, regions-many e, p .shape .room))
 
 -- the same as code takes them: a way out for each test that fails, and the last test
 module _ (w : List ℕ) (n k j : ℕ) (v : List ℕ) (b : ℕ) (h : Held w n k v b) (i : Numbered n j) (r : Box) where
@@ -371,6 +366,24 @@ module _ (w : List ℕ) (n k j : ℕ) (v : List ℕ) (b : ℕ) (h : Held w n k v
       → allZero w (L * j + 4 + wordAt w j 1 * (2 * k + 1)) (L * j + L - (L * j + 4 + wordAt w j 1 * (2 * k + 1))) ≡ true
       → tiles r (regionsIn k (wordAt w j 1) w (L * j + 4)) ≡ soundRegions L w j r
   regions-last e f = rw (e, f) at regions-is
+
+  -- the c entries of a region page, from its word 4 on
+  pub record Entries (c : ℕ) : Type 0 where
+    pub room : Room (2 * k + 1) c 0 (L * j + 4) (L * j + L)
+    pub few : c ≤ L
+    pub are : readEnts k c (drop (L * j + 4) w) ≡ entsIn (view L w j)
+
+  pub entries-of : (c : ℕ) → c ≡ wordAt w j 1 → soundRegions L w j r ≡ true → Entries c
+  entries-of c q t =
+      let x = regions-entries w n j (h .pool) i r t in
+      let f : c * (2 * k + 1) ≤ L - 4 = rw (q, h .domains) (x .fits) in
+      let m : c ≤ regionsPer L k = rw (q, h .domains) (x .room) in
+      let z = sub-zero c in
+      record {
+        room = record { left = rw z (omega arith) };
+        few = omega (arith, div-le-self (L - 4) (2 * k + 1));
+        are = rw (q, h .domains) (sym (x .ents))
+      }
 
 -- a page whose first words are good has its c entries, of k + 1 or 2 k + 1 words, within it
 pub record PointRoom (k c : ℕ) : Type 0 where

@@ -7,16 +7,20 @@ use native.Mathlib.Omega.{arith}
 use native.Mathlib.Nat.{suc-mul}
 use lib.Dec.{T, ltb, eqb}
 use lib.ListN.{length, drop, getD, set}
-use borrow.Author.Tests.{eq-eqb, ne-eqb, lt-ltb, le-ltb}
+use borrow.Author.Tests.{eq-eqb, ne-eqb, lt-ltb, le-ltb, ltb-true, eqb-false, not-true}
 use Rattle.kdb.specs.Lists.{every}
 use Rattle.kdb.specs.Box.{Box, whole}
 use Rattle.kdb.specs.Pages.{Ent, recsIn, entsIn, readEnts, page}
 use Rattle.kdb.specs.Pool.{domains, rootAt, levelsAt, countAt, view, goodLength, goodHeader}
 use Rattle.kdb.specs.Print.{sound}
 use Rattle.kdb.specs.Calls.{L, check, lent, refuses, outcome, Promise}
+use Rattle.kdb.proofs.Lists.{and-t}
 use Rattle.kdb.proofs.Words.{entAt, ent-turn}
+use Rattle.words.specs.Words.{Paged}
+use Rattle.words.proofs.Laws.{pages}
 use Rattle.cover.specs.Boxes.{regionIn}
 use Rattle.audit.specs.declared.Seen.{Seen}
+use Rattle.audit.specs.Tests.{freshOf, Numbered}
 use Rattle.audit.specs.Walk.{Way, spoilt, calm, through, soundPoints, soundRegions, fresh, leafOf, pageOf, walkOf, freeOf, restOf, unmarked, audited}
 
 -- c − e entries of d words from a on, up to m
@@ -39,29 +43,41 @@ module _ (step : Ent → Seen → List ℕ → Way) (w : List ℕ) (k c e a : �
   unfolding through
   entries-next q h = rw (ent-turn k c e w a h) at q
 
-module _ (l : ℕ) (w : List ℕ) (j : ℕ) (r : Box) (s : Seen) (m : List ℕ) where
-  pub page-bad : fresh L w j m s ≡ false → (spoilt (s .left), m) ≡ pageOf L w (l - 1) j r s m
+-- a page that may be looked at has the number of a page
+pub fresh-number : (n j : ℕ) (m : List ℕ) (s : Seen) → freshOf n j m s ≡ true → Numbered n j
+fresh-number n j m s e =
+    let a = and-t (not (s .bad) && not (eqb j 0) && ltb j n) _ e in
+    let b = and-t (not (s .bad) && not (eqb j 0)) _ (a .0) in
+    let z : j ≡ 0 → ⊥ = eqb-false j 0 (not-true (eqb j 0) (and-t (not (s .bad)) _ (b .0) .1)) in
+    record { some = omega arith; page = ltb-true j n (b .1) }
+
+module _ (l : ℕ) (w : List ℕ) (n : ℕ) (g : Paged w n) (j : ℕ) (r : Box) (s : Seen) (m : List ℕ) where
+  -- n is the number of pages
+  fresh-is : (t : Bool) → freshOf n j m s ≡ t → fresh L w j m s ≡ t
+  fresh-is t e = rw (pages w n g) e
+
+  pub page-bad : freshOf n j m s ≡ false → (spoilt (s .left), m) ≡ pageOf L w (l - 1) j r s m
   unfolding pageOf
-  page-bad g = go (l - 1)
+  page-bad f = go (fresh-is false f) (l - 1)
     where
-      go : (x : ℕ) → (spoilt (s .left), m) ≡ pageOf L w x j r s m
-      go zero = rw g
-      go (suc x) = rw g
+      go : fresh L w j m s ≡ false → (x : ℕ) → (spoilt (s .left), m) ≡ pageOf L w x j r s m
+      go f zero = rw f
+      go f (suc x) = rw f
 
-  pub page-leaf : fresh L w j m s ≡ true → l ≤ 1 → (leafOf L w j r (s .left), set m j 1) ≡ pageOf L w (l - 1) j r s m
+  pub page-leaf : freshOf n j m s ≡ true → l ≤ 1 → (leafOf L w j r (s .left), set m j 1) ≡ pageOf L w (l - 1) j r s m
   unfolding pageOf
-  page-leaf g h = let z : l - 1 ≡ 0 = omega arith in rw z (rw g)
+  page-leaf f h = let z : l - 1 ≡ 0 = omega arith in rw z (rw (fresh-is true f))
 
-  pub page-spoilt : fresh L w j m s ≡ true → 1 < l → soundRegions L w j r ≡ false → (spoilt (s .left), set m j 1) ≡ pageOf L w (l - 1) j r s m
+  pub page-spoilt : freshOf n j m s ≡ true → 1 < l → soundRegions L w j r ≡ false → (spoilt (s .left), set m j 1) ≡ pageOf L w (l - 1) j r s m
   unfolding pageOf
-  page-spoilt g h t = let z : l - 1 ≡ suc (l - 1 - 1) = omega arith in rw z (rw (g, t))
+  page-spoilt f h t = let z : l - 1 ≡ suc (l - 1 - 1) = omega arith in rw z (rw (fresh-is true f, t))
 
-  pub page-entries : fresh L w j m s ≡ true → 1 < l → soundRegions L w j r ≡ true
+  pub page-entries : freshOf n j m s ≡ true → 1 < l → soundRegions L w j r ≡ true
       → through (λ e. pageOf L w (l - 1 - 1) (e .child) (e .box)) (entsIn (view L w j)) (calm (s .left)) (set m j 1) ≡ pageOf L w (l - 1) j r s m
   unfolding pageOf
-  page-entries g h t =
+  page-entries f h t =
       let z : l - 1 ≡ suc (l - 1 - 1) = omega arith in
-      let e : through (λ x. pageOf L w (l - 1 - 1) (x .child) (x .box)) (entsIn (view L w j)) (calm (s .left)) (set m j 1) ≡ pageOf L w (suc (l - 1 - 1)) j r s m = rw (g, t) in
+      let e : through (λ x. pageOf L w (l - 1 - 1) (x .child) (x .box)) (entsIn (view L w j)) (calm (s .left)) (set m j 1) ≡ pageOf L w (suc (l - 1 - 1)) j r s m = rw (fresh-is true f, t) in
       e ∙ ap (λ (x : ℕ). pageOf L w x j r s m) (sym z)
 
 module _ (w : List ℕ) (j : ℕ) (r : Box) (left : ℕ) where
