@@ -17,6 +17,9 @@ use Rattle.kdb.specs.Pages.{Ent, Page, blank, points, regions, regionsPer, poin
 use Rattle.kdb.specs.Shape.{differ, PointPage, RegionPage, Shaped, ShapedF, pointPage, regionPage}
 use Rattle.kdb.specs.Pool.{domains, rootAt, levelsAt, countAt, pagesIn, goodLength, goodHeader, view, numbers, reachedFrom, reached, Paths, Sound}
 use Rattle.kdb.specs.Print.{forest, treeAt, stateOf, sound}
+use Rattle.kdb.specs.Calls as Calls
+use Rattle.words.specs.Words.{Paged}
+use Rattle.words.proofs.Laws.{pages}
 use Rattle.kdb.proofs.Lists.{and-l, and-r, and-i, bool, is-true, is-false, of-true, of-false, of-bit, to-bit, no-bit, bool-eq, many-append, same-eq, same-refl, each-map, each-two, each-every, every-each, zeros-pad, pad-zeros, every-up, up-every, sum-once}
 use Rattle.kdb.proofs.Pages.{FitsPage, read-page, page-full}
 use Rattle.kdb.proofs.Views.{Under, whole-under, tiles-under, whole-finite, among}
@@ -350,3 +353,13 @@ audit-is L big w long head =
     let a = audit-iff L big w long head in
     let s = sound-iff L big w in
     bool-eq (audited L w) (sound L w) (λ h. s .1 (a .0 h)) (λ h. a .1 (s .0 h))
+
+-- the same of a pool of n pages, as code has it
+pub audit-says : (w : List ℕ) (n : ℕ) → Paged w n → goodHeader Calls.L w ≡ true → audited Calls.L w ≡ sound Calls.L w
+audit-says w n g e =
+    let p = pages w n g in
+    audit-is Calls.L (omega arith) w (length-iff Calls.L w .1 (record { long = omega (arith, g .words, p); least = omega (arith, g .least, p); most = omega (arith, g .most, p) }))
+    (of-true (goodHeader Calls.L w) e)
+
+pub header-domains : (w : List ℕ) → goodHeader Calls.L w ≡ true → (1 ≤ domains w) × (domains w ≤ 4)
+header-domains w e = let h = header-iff Calls.L w .0 (of-true (goodHeader Calls.L w) e) in (h .least, h .most)

@@ -45,7 +45,7 @@ ent-words k vs h =
     let q : 2 * k ≡ k + k = omega arith in
     let r : k + suc k ≡ 2 * k + 1 = omega arith in
     let one : b ++ (getD vs (2 * k) 0 ∷ []) ≡ take (suc k) (drop k vs) =
-      ap (λ (x : ℕ). b ++ (x ∷ [])) (ap (λ (i : ℕ). getD vs i 0) q ∙ sym (getD-drop k vs k 0)) ∙ sym (take-suc (drop k vs) k 0 (omega arith)) in
+    ap (λ (x : ℕ). b ++ (x ∷ [])) (ap (λ (i : ℕ). getD vs i 0) q ∙ sym (getD-drop k vs k 0)) ∙ sym (take-suc (drop k vs) k 0 (omega arith)) in
     ap₂ (λ x y. x ++ (y ++ (getD vs (2 * k) 0 ∷ []))) (lows-sides a b s) (highs-sides a b s) ∙ (ap (λ (x : List ℕ). a ++ x) one ∙ (sym (take-add k (suc k) vs) ∙ ap (λ (i : ℕ). take i vs) r))
 
 pub ents-words : (k n : ℕ) (vs : List ℕ) → n * (2 * k + 1) ≤ length vs → gather wordsE (readEnts k n vs) ≡ take (n * (2 * k + 1)) vs

@@ -156,7 +156,7 @@ module _ (w : List ℕ) (n j : ℕ) (g : Paged w n) (i : Numbered n j) where
         is = eqb→eq (wordAt w j 0) kind (and-l a _ t₂);
         room = leb→le (wordAt w j 1) full (and-r a _ t₂);
         domain = ltb→lt (wordAt w j 2) k (and-r (a && b) _ t₁);
-        zero = eqb→eq (wordAt w j 3) 0 (and-r (a && b && c) _ t)
+        zero = eqb→eq (wordAt w j 3) 0 (and-r (a && b && c) _ t);
       }
 
   says-head : (full kind : ℕ) → Head full kind → T (headOf w k j kind full)
@@ -202,10 +202,12 @@ module _ (w : List ℕ) (n j : ℕ) (g : Paged w n) (i : Numbered n j) where
       let f : pointWords ≤ L - 4 = points-fit L k (wordAt w j 1) h in
       let v = points-view e in
       record {
-        room = h; fits = f; split = ap domain v ∙ word 2 (omega arith);
+        room = h;
+        fits = f;
+        split = ap domain v ∙ word 2 (omega arith);
         many = ap (λ x. length (recsIn x)) v ∙ length-recs k (wordAt w j 1) (drop 4 ws);
         recs = ap recsIn v ∙ (ap (readRecs k (wordAt w j 1)) (page-rest L w j 4) ∙ recs-take k (wordAt w j 1) (L - 4) (drop (L * j + 4) w) f);
-        prints = points-print e f
+        prints = points-print e f;
       }
 
   scattered-recs : PointView → (r : Box) → scattered r (keysIn (wordAt w j 1) w k j 0) ≡ every (λ q. within r (q .key)) (recsIn (view L w j)) && differ (recsIn (view L w j))
@@ -223,27 +225,27 @@ module _ (w : List ℕ) (n j : ℕ) (g : Paged w n) (i : Numbered n j) where
   point-page-is r =
       bool-eq (hd && tl && sc) (soundPoints L w j r)
       (λ t. let u = and-l (hd && tl) _ t in
-        let h = head-says (pointsPer L k) 2 (and-l hd _ u) in
-        let v = point-view (h .is) (h .room) in
-        let s : T (every (λ q. within r (q .key)) (recsIn (view L w j)) && differ (recsIn (view L w j))) = rw (scattered-recs v r) at (and-r (hd && tl) _ t) in
-        say-points L w j r (record {
-          laid = laid-iff pointWords (omega (arith, v .fits)) (v .prints) .1 (h .zero, and-r hd _ u);
-          is = rw (points-view (h .is)) tt;
-          shape = record {
-            room = omega (arith, v .many, v .room);
-            domain = omega (arith, v .split, h .domain);
-            inside = and-l (every (λ q. within r (q .key)) (recsIn (view L w j))) _ s;
-            distinct = and-r (every (λ q. within r (q .key)) (recsIn (view L w j))) _ s
-          }
-        }))
+      let h = head-says (pointsPer L k) 2 (and-l hd _ u) in
+      let v = point-view (h .is) (h .room) in
+      let s : T (every (λ q. within r (q .key)) (recsIn (view L w j)) && differ (recsIn (view L w j))) = rw (scattered-recs v r) at (and-r (hd && tl) _ t) in
+      say-points L w j r (record {
+        laid = laid-iff pointWords (omega (arith, v .fits)) (v .prints) .1 (h .zero, and-r hd _ u);
+        is = rw (points-view (h .is)) tt;
+        shape = record {
+          room = omega (arith, v .many, v .room);
+          domain = omega (arith, v .split, h .domain);
+          inside = and-l (every (λ q. within r (q .key)) (recsIn (view L w j))) _ s;
+          distinct = and-r (every (λ q. within r (q .key)) (recsIn (view L w j))) _ s;
+        };
+      }))
       (λ t. let p = points-say L w j r t in
-        let e = points-kind (p .is) in
-        let m : length (recsIn (view L w j)) ≡ wordAt w j 1 = ap (λ x. length (recsIn x)) (points-view e) ∙ length-recs k (wordAt w j 1) (drop 4 ws) in
-        let v = point-view e (omega (arith, m, p .shape .room)) in
-        let l = laid-iff pointWords (omega (arith, v .fits)) (v .prints) .0 (p .laid) in
-        and-i (hd && tl) _
-        (and-i hd _ (says-head (pointsPer L k) 2 (record { is = e; room = v .room; domain = omega (arith, v .split, p .shape .domain); zero = l .0 })) (l .1))
-        (rw (scattered-recs v r) (and-i (every (λ q. within r (q .key)) (recsIn (view L w j))) _ (p .shape .inside) (p .shape .distinct))))
+      let e = points-kind (p .is) in
+      let m : length (recsIn (view L w j)) ≡ wordAt w j 1 = ap (λ x. length (recsIn x)) (points-view e) ∙ length-recs k (wordAt w j 1) (drop 4 ws) in
+      let v = point-view e (omega (arith, m, p .shape .room)) in
+      let l = laid-iff pointWords (omega (arith, v .fits)) (v .prints) .0 (p .laid) in
+      and-i (hd && tl) _
+      (and-i hd _ (says-head (pointsPer L k) 2 (record { is = e; room = v .room; domain = omega (arith, v .split, p .shape .domain); zero = l .0 })) (l .1))
+      (rw (scattered-recs v r) (and-i (every (λ q. within r (q .key)) (recsIn (view L w j))) _ (p .shape .inside) (p .shape .distinct))))
     where
       hd : Bool
       hd = headOf w k j 2 (pointsPer L k)
@@ -274,41 +276,44 @@ module _ (w : List ℕ) (n j : ℕ) (g : Paged w n) (i : Numbered n j) where
       let f : regionWords ≤ L - 4 = regions-fit L k (wordAt w j 1) h in
       let v = regions-view e in
       record {
-        room = h; fits = f; split = ap domain v ∙ word 2 (omega arith); many = regions-many e;
+        room = h;
+        fits = f;
+        split = ap domain v ∙ word 2 (omega arith);
+        many = regions-many e;
         ents = ap entsIn v ∙ (ap (readEnts k (wordAt w j 1)) (page-rest L w j 4) ∙ ents-take k (wordAt w j 1) (L - 4) (drop (L * j + 4) w) f);
-        prints = regions-print e f
+        prints = regions-print e f;
       }
 
   pub region-page-is : (r : Box) → headOf w k j 1 (regionsPer L k) && leb 1 (wordAt w j 1) && tailZero regionWords && tiles r (regionsIn k (wordAt w j 1) w (L * j + 4)) ≡ soundRegions L w j r
   region-page-is r =
       bool-eq (hd && leb 1 c && tl && ti) (soundRegions L w j r)
       (λ t. let u = and-l (hd && leb 1 c && tl) _ t in
-        let x = and-l (hd && leb 1 c) _ u in
-        let h = head-says (regionsPer L k) 1 (and-l hd _ x) in
-        let some : 1 ≤ c = leb→le 1 c (and-r hd _ x) in
-        let v = region-view (h .is) (h .room) in
-        let s : T (tiles r (boxesIn (view L w j))) = rw (v .ents) (and-r (hd && leb 1 c && tl) _ t) in
-        say-regions L w j r (record {
-          laid = laid-iff regionWords (omega (arith, v .fits)) (v .prints) .1 (h .zero, and-r (hd && leb 1 c) _ u);
-          is = rw (regions-view (h .is)) tt;
-          shape = record {
-            filled = omega (arith, v .many);
-            room = omega (arith, v .many, v .room);
-            domain = omega (arith, v .split, h .domain);
-            tiled = tiles-iff r (boxesIn (view L w j)) .0 s
-          }
-        }))
+      let x = and-l (hd && leb 1 c) _ u in
+      let h = head-says (regionsPer L k) 1 (and-l hd _ x) in
+      let some : 1 ≤ c = leb→le 1 c (and-r hd _ x) in
+      let v = region-view (h .is) (h .room) in
+      let s : T (tiles r (boxesIn (view L w j))) = rw (v .ents) (and-r (hd && leb 1 c && tl) _ t) in
+      say-regions L w j r (record {
+        laid = laid-iff regionWords (omega (arith, v .fits)) (v .prints) .1 (h .zero, and-r (hd && leb 1 c) _ u);
+        is = rw (regions-view (h .is)) tt;
+        shape = record {
+          filled = omega (arith, v .many);
+          room = omega (arith, v .many, v .room);
+          domain = omega (arith, v .split, h .domain);
+          tiled = tiles-iff r (boxesIn (view L w j)) .0 s;
+        };
+      }))
       (λ t. let p = regions-say L w j r t in
-        let e = regions-kind (p .is) in
-        let m = regions-many e in
-        let v = region-view e (omega (arith, m, p .shape .room)) in
-        let l = laid-iff regionWords (omega (arith, v .fits)) (v .prints) .0 (p .laid) in
-        let s : T (tiles r (boxesIn (view L w j))) = tiles-iff r (boxesIn (view L w j)) .1 (p .shape .tiled) in
-        and-i (hd && leb 1 c && tl) _
-        (and-i (hd && leb 1 c) _
-        (and-i hd _ (says-head (regionsPer L k) 1 (record { is = e; room = v .room; domain = omega (arith, v .split, p .shape .domain); zero = l .0 })) (le→leb 1 c (omega (arith, m, p .shape .filled))))
-        (l .1))
-        (rw (v .ents) at s))
+      let e = regions-kind (p .is) in
+      let m = regions-many e in
+      let v = region-view e (omega (arith, m, p .shape .room)) in
+      let l = laid-iff regionWords (omega (arith, v .fits)) (v .prints) .0 (p .laid) in
+      let s : T (tiles r (boxesIn (view L w j))) = tiles-iff r (boxesIn (view L w j)) .1 (p .shape .tiled) in
+      and-i (hd && leb 1 c && tl) _
+      (and-i (hd && leb 1 c) _
+      (and-i hd _ (says-head (regionsPer L k) 1 (record { is = e; room = v .room; domain = omega (arith, v .split, p .shape .domain); zero = l .0 })) (le→leb 1 c (omega (arith, m, p .shape .filled))))
+      (l .1))
+      (rw (v .ents) at s))
     where
       c : ℕ
       c = wordAt w j 1
@@ -382,7 +387,7 @@ module _ (w : List ℕ) (n k j : ℕ) (v : List ℕ) (b : ℕ) (h : Held w n k v
       record {
         room = record { left = rw z (omega arith) };
         few = omega (arith, div-le-self (L - 4) (2 * k + 1));
-        are = rw (q, h .domains) (sym (x .ents))
+        are = rw (q, h .domains) (sym (x .ents));
       }
 
 -- a page whose first words are good has its c entries, of k + 1 or 2 k + 1 words, within it

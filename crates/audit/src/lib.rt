@@ -1,18 +1,18 @@
 // The audit of a pool: whether it is sound, for every pool. One walk from the root with a mark for each page met, so that no page is looked
 // at twice; then the pages not met are all zero.
+use cover::tiled;
+use words::child;
 use words::get;
+use words::good_header;
+use words::lower_end;
+use words::page_count;
+use words::point_key;
+use words::points_per;
 use words::put;
+use words::regions_per;
+use words::upper_end;
 use words::word;
 use words::zeros;
-use words::page_count;
-use words::good_header;
-use words::regions_per;
-use words::points_per;
-use words::point_key;
-use words::lower_end;
-use words::upper_end;
-use words::child;
-use cover::tiled;
 ghost use mathlib.Core.Path.{_≡_};
 ghost use mathlib.Core.Bool.{true, false};
 ghost use mathlib.Core.List.{[]};
@@ -149,11 +149,24 @@ fn leaf(p: &[u32], n: usize, k: usize, j: usize, q: &[u32], b: usize, left: usiz
     if left < count {
         return Seen { bad: true, left };
     }
-    Seen { bad: false, left: left - count }
+    Seen {
+        bad: false,
+        left: left - count,
+    }
 }
 
 // Page j, that is to have `level` levels and the region at word b of q, and all below it.
-fn page(p: &[u32], n: usize, k: usize, level: usize, j: usize, q: &[u32], b: usize, met: &mut [u32], s: Seen) -> Seen
+fn page(
+    p: &[u32],
+    n: usize,
+    k: usize,
+    level: usize,
+    j: usize,
+    q: &[u32],
+    b: usize,
+    met: &mut [u32],
+    s: Seen,
+) -> Seen
     requires { ⌜ Held (now p) n k (now q) b ⌝ }
     ensures { λ r. ⌜ (r, now (met .exit)) ≡ pageOf L (now (p .entry)) (level - 1) j (regionIn k (now (q .entry)) b) s (now (met .entry)) ⌝ }
 {
@@ -245,9 +258,5 @@ pub fn check(pool: &[u32]) -> u32
     if !good_header(pool, n) {
         return 6;
     }
-    if audit(pool, n) {
-        0
-    } else {
-        6
-    }
+    if audit(pool, n) { 0 } else { 6 }
 }
