@@ -5,16 +5,9 @@ use mathlib.Core.Path.{_≡_, refl, sym, ap, ap₂, _∙_, subst}
 use Prim.Native.Nat.{ℕ, zero, suc, _+_, _-_, _*_, _<_, _≤_}
 use native.Mathlib.Omega.{arith}
 use lib.Dec.{T, leb, eqb, leb→le, nleb→lt, eqb→eq, eqb-refl, T-not}
-use native.Mathlib.Nat.{zero-mul, suc-mul, zero-add, suc-add, add-zero}
-use lib.ListN.{length, take, drop, getD, length-append, take-append-drop, set, replicate}
-use lib.Seq.{take-append-add, take-take, sets}
-use borrow.Author.Tests.{eq-eqb, ne-eqb}
-use mathlib.Core.Path.{_≡_, refl, sym, ap, ap₂, _∙_}
-use Prim.Native.Nat.{ℕ, zero, suc, _+_, _-_, _<_, _≤_, min}
-use native.Mathlib.Omega.{arith}
-use lib.Dec.{T, leb, ltb, eqb, leb→le, le→leb, ltb→lt, lt→ltb, nleb→lt, nltb→le, eqb→eq, eqb-refl}
-use lib.ListN.{length, take, drop, getD, set, length-append, length-set, take-append-drop, drop-of-length-le}
-use lib.Seq.{sets, sets-eq, set-out, take-all, length-take-le}
+use native.Mathlib.Nat.{zero-mul, suc-mul, zero-add, suc-add, add-zero, add-mul}
+use lib.ListN.{length, take, drop, getD, length-append, take-append-drop, set, replicate, drop-of-length-le}
+use lib.Seq.{take-append-add, take-take, sets, sets-eq, set-out, take-all, length-take-le}
 use borrow.Author.Tests.{eq-eqb, ne-eqb, leb-true, leb-false}
 use Rattle.kdb.specs.Lists.{bit, only, tally, every, any, Each, gather, sum, many, upFrom, pad, same}
 
@@ -677,3 +670,40 @@ module _ {ℓ} {A : Type ℓ} where
           ∙ ap (λ y. sets y (0 + length (take m v)) (drop m v)) (sets-whole x (take m v) l)
           ∙ sets-out (take m v) (drop m v) (0 + length (take m v)) (omega arith)
           ∙ sym (ap (λ y. take m v ++ y) (drop-of-length-le x {i = length v} (omega arith)) ∙ append-nil (take m v))
+-- the numbers from a on: a test of each, and the sum over a list of them
+pub every-up : (f : ℕ → Bool) (n a : ℕ) → T (every f (upFrom n a)) → (j : ℕ) → a ≤ j → j < a + n → T (f j)
+every-up f zero a t j h g = absurd (omega arith)
+every-up f (suc n) a t j h g =
+    bool (eqb j a) (λ y. rw (eqb→eq j a y) (and-l (f a) _ t))
+    (λ y. let ne : j ≡ a → ⊥ = λ e. T-not (eqb j a) y (of-true (eqb j a) (eq-eqb j a e)) in every-up f n (suc a) (and-r (f a) _ t) j (omega arith) (omega arith))
+
+pub up-every : (f : ℕ → Bool) (n a : ℕ) → ((j : ℕ) → a ≤ j → j < a + n → T (f j)) → T (every f (upFrom n a))
+up-every f zero a g = tt
+up-every f (suc n) a g = and-i (f a) _ (g a (omega arith) (omega arith)) (up-every f n (suc a) (λ j h k. g j (omega arith) (omega arith)))
+
+pub sum-append : (f : ℕ → ℕ) (l m : List ℕ) → sum (map f (l ++ m)) ≡ sum (map f l) + sum (map f m)
+sum-append f [] m = sym (zero-add (sum (map f m)))
+sum-append f (a ∷ l) m = omega (arith, sum-append f l m)
+
+pub sum-spread : (f : ℕ → ℕ) (ps : List ℕ) (n a : ℕ) → Ranged n a ps → sum (map f ps) ≡ sum (map (λ j. many j ps * f j) (upFrom n a))
+sum-spread f [] n a h = sym (sum-same (λ j. 0 * f j) (λ j. 0) (λ j. zero-mul (f j)) (upFrom n a) ∙ sum-none (upFrom n a))
+sum-spread f (p ∷ ps) n a h =
+    let i = h .is p (omega (arith, self p)) in
+    let rest = sum-spread f ps n a (record { is = λ c k. h .is c (omega arith) }) in
+    let one = sum-same (λ j. bit (eqb j p) * f j) (λ j. cond (eqb j p) (f p) 0) (λ j. hit j (eqb j p) (eqb→eq j p)) (upFrom n a) ∙ sum-hit (f p) p n a (i .0) (i .1) in
+    sym (sum-same (λ j. (bit (eqb j p) + many j ps) * f j) (λ j. bit (eqb j p) * f j + many j ps * f j) (λ j. add-mul (bit (eqb j p)) (many j ps) (f j)) (upFrom n a)
+    ∙ (sum-add (λ j. bit (eqb j p) * f j) (λ j. many j ps * f j) (upFrom n a) ∙ omega arith))
+  where
+    hit : (j : ℕ) (t : Bool) → (T t → j ≡ p) → bit t * f j ≡ cond t (f p) 0
+    hit j true e = omega (arith, suc-mul 0 (f j), zero-mul (f j), ap f (e tt))
+    hit j false e = zero-mul (f j)
+
+-- a sum over pages that stand once, and over all numbers, where the other numbers count nothing
+pub sum-once : (f : ℕ → ℕ) (ps : List ℕ) (n a : ℕ) → Ranged n a ps → ((c : ℕ) → many c ps ≤ 1) → ((c : ℕ) → many c ps ≡ 0 → f c ≡ 0)
+    → sum (map f ps) ≡ sum (map f (upFrom n a))
+sum-once f ps n a h once out =
+    sum-spread f ps n a h ∙ sum-same (λ j. many j ps * f j) f (λ j. go j (many j ps) (once j) (out j)) (upFrom n a)
+  where
+    go : (j m : ℕ) → m ≤ 1 → (m ≡ 0 → f j ≡ 0) → m * f j ≡ f j
+    go j zero h z = zero-mul (f j) ∙ sym (z refl)
+    go j (suc m) h z = let e : m ≡ 0 = omega arith in rw e (omega (arith, suc-mul 0 (f j), zero-mul (f j)))

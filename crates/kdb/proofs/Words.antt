@@ -92,19 +92,19 @@ pub fits : (c d m : ℕ) → c ≤ m / d → c * d ≤ m
 fits c d m h = le-trans (mul-le-mul-right d h) (div-mul-le-self m d)
 
 module _ (L : ℕ) (w : List ℕ) (j : ℕ) where
-  abbrev kind : ℕ
+  abbrev pub kind : ℕ
   kind = getD w (L * j + 0) 0
 
   abbrev pub count : ℕ
   count = getD w (L * j + 1) 0
 
-  abbrev shape : Bool → Bool → Page
+  abbrev pub shape : Bool → Bool → Page
   shape one two =
       cond one (regions (getD (page L w j) 2 0) (readEnts (domains w) count (drop 4 (page L w j))))
       (cond two (points (getD (page L w j) 2 0) (readRecs (domains w) count (drop 4 (page L w j)))) blank)
 
   module _ (room : 4 ≤ L) (h : isPage L w j ≡ true) where
-    seen : view L w j ≡ shape (eqb kind 1) (eqb kind 2)
+    pub seen : view L w j ≡ shape (eqb kind 1) (eqb kind 2)
     seen = rw (h, page-word L w j 0 (omega arith), page-word L w j 1 (omega arith))
 
     pub good-points : goodPoints L w j ≡ eqb kind 2 && leb count (pointsPer L (domains w))
