@@ -123,24 +123,28 @@ module _ (w v out : List ℕ) where
 
 -- the walk's state as list's outcome
 module _ (w out : List ℕ) (t : Tally) (out′ : List ℕ) (g : Tour) (e : seen t out′ ≡ walked out g) where
-  pub list-bad : t .bad ≡ true → length out′ ≡ length out → refuses 6 (with w (sets out′ 0 (replicate (length out - 0) 0))) ≡ listing g w out
+  abbrev left : List ℕ
+  left = sets out′ (cond (t .bad) 0 (length out)) (replicate (length out - cond (t .bad) 0 (length out)) 0)
+
+  pub list-bad : t .bad ≡ true → length out′ ≡ length out → refuses 6 (with w left) ≡ listing g w out
   list-bad h l = go (g .bad) refl
     where
-      go : (b : Bool) → g .bad ≡ b → refuses 6 (with w (sets out′ 0 (replicate (length out - 0) 0))) ≡ listing g w out
-      go true q = rw (q, sub-zero (length out), ← l, cleared out′)
+      go : (b : Bool) → g .bad ≡ b → refuses 6 (with w left) ≡ listing g w out
+      go true q = rw (q, h, sub-zero (length out), ← l, cleared out′)
       go false q = let x = rw (h, q) at e in absurd (let y : _≡_ {A = ℕ} 0 1 = cc in omega arith)
 
-  pub list-good : t .bad ≡ false → gives (t .total ∷ t .reads ∷ []) (with w out′) ≡ listing g w out
+  pub list-good : t .bad ≡ false → gives (t .total ∷ t .reads ∷ []) (with w left) ≡ listing g w out
   list-good h = go (g .bad) refl
     where
-      go : (b : Bool) → g .bad ≡ b → gives (t .total ∷ t .reads ∷ []) (with w out′) ≡ listing g w out
+      go : (b : Bool) → g .bad ≡ b → gives (t .total ∷ t .reads ∷ []) (with w left) ≡ listing g w out
       go true q = let x = rw (h, q) at e in absurd (let y : _≡_ {A = ℕ} 0 1 = cc in omega arith)
       go false q =
           let x = rw (h, q) at e in
           let total : t .total ≡ length (g .found) = cc in
           let reads : t .reads ≡ length (g .read) = cc in
           let slots : out′ ≡ sets out 0 (locations (g .found)) = cc in
-          rw (q, total, reads, slots, sets-fill out (locations (g .found)), length-map (g .found) (λ s. s .rec .loc))
+          let none : length out - length out ≡ 0 = omega arith in
+          rw (q, h, none, total, reads, slots, sets-fill out (locations (g .found)), length-map (g .found) (λ s. s .rec .loc))
 
 -- K is 1 to 4, as format tests it
 pub outside : (k : ℕ) → ltb k 1 || ltb 4 k ≡ true → goodDomains k ≡ false

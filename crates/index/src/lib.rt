@@ -10,6 +10,7 @@ use words::good_header;
 use words::page_count;
 use words::put;
 ghost use mathlib.Core.Path.{_≡_};
+ghost use mathlib.Core.Bool.{cond};
 ghost use Prim.Native.Nat.{ℕ, _*_};
 ghost use lib.ListN.{length};
 ghost use Rattle.kdb.specs.Walk.{listWalk};
@@ -89,6 +90,13 @@ pub fn find(pool: &[u32], point: &[u32]) -> Found
     }
 }
 
+// From which slot on the answer becomes 0: the first where the walk was stopped, none else.
+fn zeroed_from(stopped: bool, slots: usize) -> usize
+    ensures { λ r. ⌜ r ≡ cond stopped 0 slots ⌝ }
+{
+    if stopped { 0 } else { slots }
+}
+
 // List after the tests of its arguments: the walk, and every slot 0 where it met a bad page or the bound.
 fn list_within(pool: &[u32], n: usize, k: usize, window: &[u32], answer: &mut [u32]) -> Listed
     requires { ⌜ Fit (now pool) n k × (length (now window) ≡ 2 * k) ⌝ }
@@ -96,8 +104,8 @@ fn list_within(pool: &[u32], n: usize, k: usize, window: &[u32], answer: &mut [u
 {
     let slots = answer.len();
     let t = list_walk(pool, n, k, window, answer);
+    clear(answer, zeroed_from(t.bad, slots), slots);
     if t.bad {
-        clear(answer, 0, slots);
         return Listed::BadPage;
     }
     Listed::Counted(t.total, t.reads)
