@@ -11,7 +11,8 @@ use lib.Seq.{sets, sets-eq, set-out, take-all, length-take-le}
 use borrow.Author.Tests.{eq-eqb, ne-eqb, le-leb, lt-leb, ltb-true, ltb-false}
 use Rattle.kdb.specs.Pool.{domains, pagesIn, goodLength, goodHeader}
 use Rattle.kdb.specs.Walk.{Spot, Tour, listWalk, End, rootless, bad, absent, here, Search, findWalk}
-use Rattle.kdb.specs.Calls.{L, format, find, list, Outcome, gives, refuses, finite, goodDomains, formatted, windowOf, ordered, finding, filled, listing, outcome}
+use Rattle.kdb.specs.Print.{sound}
+use Rattle.kdb.specs.Calls.{Promise, lent, judge, _or_, core, check, L, format, find, list, Outcome, gives, refuses, finite, goodDomains, formatted, windowOf, ordered, finding, filled, listing, outcome}
 use Rattle.kdb.proofs.Lists.{and-false, sets-fill}
 use Rattle.words.specs.Words.{Paged, pageCount}
 use Rattle.words.proofs.Laws.{count-none, count-some, pages, cleared}
@@ -54,6 +55,20 @@ formats w n k g =
   where
     go : (l m : ℕ) → l ≡ suc (suc m) → set (set (replicate l 0) 0 k) 1 n ≡ k ∷ n ∷ replicate m 0
     go l m e = rw e
+
+-- check: its number is 0, 1 or 6
+pub check-as : (w : List ℕ) (r m : ℕ) → r ≡ m → Promise w check (refuses r (lent w check)) → Promise w check (refuses m (alone w))
+check-as w r m e p = record { kept = ap (λ i. refuses i (alone w)) (sym e) ∙ p .kept }
+
+pub check-six : (w : List ℕ) (r : ℕ) → (r ≡ 0 → ⊥) → (r ≡ 1 → ⊥) → Promise w check (refuses r (lent w check)) → r ≡ 6
+unfolding outcome
+check-six w r z o p = go (goodLength L w) (goodHeader L w) (sound L w) (ap (λ x. x .number) (p .kept))
+  where
+    go : (a b c : Bool) → r ≡ judge ((a or 1) ∷ (b or 6) ∷ (c or 6) ∷ []) (lent w check) (core w check) .number → r ≡ 6
+    go false b c e = absurd (o e)
+    go true false c e = e
+    go true true false e = e
+    go true true true e = absurd (z e)
 
 -- find
 module _ (w p : List ℕ) where

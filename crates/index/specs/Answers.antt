@@ -4,6 +4,8 @@ use Prim.Native.Nat.{ℕ}
 use Rattle.kdb.specs.Calls.{Buffers, Outcome, gives, refuses}
 use Rattle.index.specs.declared.Formatted.{Formatted}
 use Rattle.index.specs.declared.Formatted.the-variants as formats
+use Rattle.index.specs.declared.Checked.{Checked}
+use Rattle.index.specs.declared.Checked.the-variants as checks
 use Rattle.index.specs.declared.Found.{Found}
 use Rattle.index.specs.declared.Found.the-variants as finds
 use Rattle.index.specs.declared.Listed.{Listed}
@@ -20,6 +22,11 @@ abbrev pub formattedAs : Formatted → List ℕ → Outcome
 formattedAs formats.Done w = gives [] (alone w)
 formattedAs formats.NotPages w = refuses 1 (alone w)
 formattedAs formats.NotDomains w = refuses 2 (alone w)
+
+abbrev pub checkedAs : Checked → List ℕ → Outcome
+checkedAs checks.Sound w = gives [] (alone w)
+checkedAs checks.NotPages w = refuses 1 (alone w)
+checkedAs checks.NotSound w = refuses 6 (alone w)
 
 abbrev pub foundAs : Found → List ℕ → Outcome
 foundAs (finds.At location reads) w = gives (location ∷ reads ∷ []) (alone w)

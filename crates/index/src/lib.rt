@@ -14,14 +14,20 @@ ghost use mathlib.Core.Bool.{cond};
 ghost use Prim.Native.Nat.{ℕ, _*_};
 ghost use lib.ListN.{length};
 ghost use Rattle.kdb.specs.Walk.{listWalk};
-ghost use Rattle.kdb.specs.Calls.{L, format, find, list, windowOf, listing, Promise};
+ghost use Rattle.kdb.specs.Calls.{L, format, check, find, list, windowOf, listing, Promise};
 ghost use Rattle.walk.specs.Pages.{Fit};
-ghost use Rattle.index.specs.Answers.{formattedAs, foundAs, listedAs};
+ghost use Rattle.index.specs.Answers.{formattedAs, checkedAs, foundAs, listedAs};
 
 pub enum Formatted {
     Done,
     NotPages,
     NotDomains,
+}
+
+pub enum Checked {
+    Sound,
+    NotPages,
+    NotSound,
 }
 
 // At: location and pages read.
@@ -62,6 +68,20 @@ pub fn format(pool: &mut [u32], k: usize) -> Formatted
     put(pool, 0, k);
     put(pool, 1, n);
     Formatted::Done
+}
+
+// Whether the pool is sound.
+pub fn check(pool: &[u32]) -> Checked
+    ensures { λ r. ⌜ Promise (now (pool .entry)) check (checkedAs r (now (pool .entry))) ⌝ }
+{
+    let number = audit::check(pool);
+    if number == 0 {
+        return Checked::Sound;
+    }
+    if number == 1 {
+        return Checked::NotPages;
+    }
+    Checked::NotSound
 }
 
 // The location of the record with the point's keys, and the pages read.

@@ -670,6 +670,7 @@ module _ {ℓ} {A : Type ℓ} where
           ∙ ap (λ y. sets y (0 + length (take m v)) (drop m v)) (sets-whole x (take m v) l)
           ∙ sets-out (take m v) (drop m v) (0 + length (take m v)) (omega arith)
           ∙ sym (ap (λ y. take m v ++ y) (drop-of-length-le x {i = length v} (omega arith)) ∙ append-nil (take m v))
+
 -- the numbers from a on: a test of each, and the sum over a list of them
 pub every-up : (f : ℕ → Bool) (n a : ℕ) → T (every f (upFrom n a)) → (j : ℕ) → a ≤ j → j < a + n → T (f j)
 every-up f zero a t j h g = absurd (omega arith)
