@@ -1,3 +1,4 @@
+-- `index::find` meets its contract: each way out is the definition's outcome.
 use Rattle.kdb.specs.Walk.{findWalk}
 use Rattle.kdb.specs.Calls.{L, find, outcome}
 use Rattle.walk.specs.Seek.{told}
@@ -8,16 +9,8 @@ use Rattle.words.proofs.Laws.{count-none, count-some}
 use borrow.Author.Tests.{not-true, not-false}
 use mathlib.Core.Path.{_≡_, sym, ap, _∙_}
 use borrow.Author.Needs.{needs}
-use native.Mathlib.Omega.{arith}
 use Rattle.index.proofs.find.Statement.{statement}
 use Rattle.index.proofs.find.Tie as tie
-use Rattle.index.proofs.find.Reads as reads
-use Rattle.index.proofs.find.Lts as lts
-use Rattle.walk.proofs.search.Reads as search-reads
-use Rattle.words.proofs.all_finite.Reads as all-finite-reads
-use Rattle.words.proofs.get.Reads as get-reads
-use Rattle.words.proofs.good_header.Reads as good-header-reads
-use Rattle.words.proofs.page_count.Reads as page-count-reads
 
 -- length and header are good
 head : (c : tie.Else2) → Top (c .before .before .before .before .before .before .args .pool .now) (c .before .before .before .page-count .result)

@@ -1,23 +1,15 @@
+-- `index::format` meets its contract: each way out is the definition's outcome.
 use mathlib.Core.List.{[]}
 use Rattle.kdb.specs.Calls.{gives}
 use lib.ListN.{set}
 use Rattle.index.specs.Answers.{alone}
 use Rattle.index.proofs.Laws.{format-1, format-2, format-0, formats, outside, inside}
 use Rattle.words.proofs.Laws.{count-none, count-some}
-use Rattle.kdb.specs.Calls.{L, goodDomains}
-use Rattle.kdb.specs.Pool.{goodLength}
-use lib.Seq.{length-sets}
-use mathlib.Core.Bool.{Bool, true, false}
-use mathlib.Core.Path.{_≡_, sym, ap, _∙_}
+use mathlib.Core.Path.{ap, _∙_}
 use borrow.Author.Needs.{needs}
 use native.Mathlib.Omega.{arith}
 use Rattle.index.proofs.format.Statement.{statement}
 use Rattle.index.proofs.format.Tie as tie
-use Rattle.index.proofs.format.Reads as reads
-use Rattle.index.proofs.format.Lts as lts
-use Rattle.words.proofs.clear.Reads as clear-reads
-use Rattle.words.proofs.page_count.Reads as page-count-reads
-use Rattle.words.proofs.put.Reads as put-reads
 
 page-count-requires : tie.Need-page-count-requires
 page-count-requires c κs = search needs

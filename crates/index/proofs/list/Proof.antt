@@ -1,20 +1,12 @@
+-- `index::list` meets its contract: each way out is the definition's outcome.
 use Rattle.index.proofs.Laws.{Top, top, list-1, list-6, list-3, list-4, list-5, list-0}
 use Rattle.walk.proofs.Pages.{fit}
 use Rattle.words.proofs.Laws.{count-none, count-some}
 use borrow.Author.Tests.{not-true, not-false}
-use mathlib.Core.Path.{_≡_, sym, ap, _∙_}
+use mathlib.Core.Path.{sym, _∙_}
 use borrow.Author.Needs.{needs}
-use native.Mathlib.Omega.{arith}
 use Rattle.index.proofs.list.Statement.{statement}
 use Rattle.index.proofs.list.Tie as tie
-use Rattle.index.proofs.list.Reads as reads
-use Rattle.index.proofs.list.Lts as lts
-use Rattle.boxes.proofs.ordered_window.Reads as ordered-window-reads
-use Rattle.index.proofs.list_within.Reads as list-within-reads
-use Rattle.words.proofs.all_finite.Reads as all-finite-reads
-use Rattle.words.proofs.get.Reads as get-reads
-use Rattle.words.proofs.good_header.Reads as good-header-reads
-use Rattle.words.proofs.page_count.Reads as page-count-reads
 
 -- length and header are good
 head : (c : tie.Else2) → Top (c .before .before .before .before .before .before .before .args .pool .now) (c .before .before .before .page-count .result)

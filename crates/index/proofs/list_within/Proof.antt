@@ -1,3 +1,4 @@
+-- `index::list_within` meets its contract: the walk's state is list's outcome.
 use Rattle.index.proofs.Laws.{list-bad, list-good}
 use Rattle.index.specs.Answers.{with}
 use Rattle.kdb.specs.Calls.{L, windowOf, refuses, gives}
@@ -5,17 +6,11 @@ use Rattle.kdb.specs.Walk.{listWalk}
 use lib.Seq.{sets}
 use lib.ListN.{length, replicate}
 use mathlib.Core.List.{[], _∷_}
-use mathlib.Core.Path.{_≡_, sym, ap, _∙_}
+use mathlib.Core.Path.{ap, _∙_}
 use Prim.Native.Nat.{_-_}
 use borrow.Author.Needs.{needs}
-use native.Mathlib.Omega.{arith}
 use Rattle.index.proofs.list_within.Statement.{statement}
 use Rattle.index.proofs.list_within.Tie as tie
-use Rattle.index.proofs.list_within.Reads as reads
-use Rattle.index.proofs.list_within.Lts as lts
-use Rattle.index.proofs.zeroed_from.Reads as zeroed-from-reads
-use Rattle.walk.proofs.list_walk.Reads as list-walk-reads
-use Rattle.words.proofs.clear.Reads as clear-reads
 
 list-walk-requires : tie.Need-list-walk-requires
 list-walk-requires c κs = search needs

@@ -1,3 +1,4 @@
+-- `walk::enter` and `walk::list_page` meet their contracts: one proof for a page and its entries, by the level; the state after the entries passed, then those left, is the state after all.
 use Rattle.walk.proofs.List.{after-still, page-bad, page-in, page-good, entries-end, entries-next}
 use Rattle.walk.proofs.Pages.{room-next}
 use Rattle.walk.specs.List.{Fair, arrived, seen, after}
@@ -8,10 +9,8 @@ use Rattle.kdb.specs.Pages.{readEnts}
 use lib.ListN.{length, drop}
 use native.Mathlib.Nat.{sub-zero}
 use mathlib.Core.Path.{_≡_, refl, sym, ap, _∙_}
-use Prim.Native.Nat.{_+_, _-_, _*_, _≤_}
-use borrow.Author.Needs.{needs}
+use Prim.Native.Nat.{_+_, _-_, _*_, _≤_, ℕ, _<_}
 use native.Mathlib.Omega.{arith}
-use Prim.Native.Nat.{ℕ, _<_}
 use borrow.Fn.Kinds.{In}
 use borrow.Fn.PlainCycle.{Measures, is, falls, and}
 use Rattle.walk.proofs.enter.Reads as enter

@@ -1,14 +1,10 @@
+-- `walk::arrive` meets its contract: a page is counted if it is a page and the bound allows it.
 use Rattle.walk.proofs.List.{more-room}
 use mathlib.Core.Bool.{not, _&&_}
-use Rattle.walk.specs.List.{Fair, arrived}
-use mathlib.Core.Path.{_≡_, refl, sym, ap, _∙_}
 use borrow.Author.Needs.{needs}
 use native.Mathlib.Omega.{arith}
 use Rattle.walk.proofs.arrive.Statement.{statement}
 use Rattle.walk.proofs.arrive.Tie as tie
-use Rattle.walk.proofs.arrive.Reads as reads
-use Rattle.walk.proofs.arrive.Lts as lts
-use Rattle.walk.proofs.is_page.Reads as is-page-reads
 
 is-page-requires : tie.Need-is-page-requires
 is-page-requires c κs = search needs

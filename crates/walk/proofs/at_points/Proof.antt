@@ -1,16 +1,11 @@
+-- `walk::at_points` meets its contract: the last level of the walk to a point.
 use Rattle.walk.proofs.Seek.{last-out, last-bad, last-good}
 use Rattle.walk.proofs.Pages.{point-page}
 use borrow.Author.Tests.{not-true, not-false}
-use mathlib.Core.Path.{_≡_, sym, _∙_}
+use mathlib.Core.Path.{sym, _∙_}
 use borrow.Author.Needs.{needs}
-use native.Mathlib.Omega.{arith}
 use Rattle.walk.proofs.at_points.Statement.{statement}
 use Rattle.walk.proofs.at_points.Tie as tie
-use Rattle.walk.proofs.at_points.Reads as reads
-use Rattle.walk.proofs.at_points.Lts as lts
-use Rattle.walk.proofs.is_page.Reads as is-page-reads
-use Rattle.walk.proofs.point_page.Reads as point-page-reads
-use Rattle.walk.proofs.record_for.Reads as record-for-reads
 
 is-page-requires : tie.Need-is-page-requires
 is-page-requires c κs = search needs

@@ -1,3 +1,4 @@
+-- `walk::child_for` meets its contract: what is left of the entries gives the child of the whole; what is left ends within the page.
 use Rattle.walk.proofs.Seek.{child-end, child-here, child-next}
 use Rattle.walk.proofs.Pages.{room-next}
 use Rattle.walk.specs.Seek.{childOf}
@@ -12,11 +13,6 @@ use borrow.Author.Needs.{needs}
 use native.Mathlib.Omega.{arith}
 use Rattle.walk.proofs.child_for.Statement.{statement}
 use Rattle.walk.proofs.child_for.Tie as tie
-use Rattle.walk.proofs.child_for.Reads as reads
-use Rattle.walk.proofs.child_for.Lts as lts
-use Rattle.boxes.proofs.point_in.Reads as point-in-reads
-use Rattle.words.proofs.child.Reads as child-reads
-use Rattle.words.proofs.word.Reads as word-reads
 
 abbrev Inv-loop : tie.InvT-loop
 Inv-loop pool k point j count at₀ e₀ at e = (e ≤ count) × (count ≡ wordAt pool j 1) × (at + (count - e) * (2 * k + 1) ≤ 32 * j + 32)

@@ -1,3 +1,4 @@
+-- `walk::descend` meets its contract: the walk from the page reached, after the pages read, is the walk from the root.
 use Rattle.walk.proofs.Seek.{down-out, down-bad, down-next}
 use Rattle.walk.proofs.Pages.{region-page}
 use Rattle.walk.specs.Seek.{told}
@@ -10,12 +11,6 @@ use borrow.Author.Needs.{needs}
 use native.Mathlib.Omega.{arith}
 use Rattle.walk.proofs.descend.Statement.{statement}
 use Rattle.walk.proofs.descend.Tie as tie
-use Rattle.walk.proofs.descend.Reads as reads
-use Rattle.walk.proofs.descend.Lts as lts
-use Rattle.walk.proofs.at_points.Reads as at-points-reads
-use Rattle.walk.proofs.child_for.Reads as child-for-reads
-use Rattle.walk.proofs.is_page.Reads as is-page-reads
-use Rattle.walk.proofs.region_page.Reads as region-page-reads
 
 abbrev Inv-loop : tie.InvT-loop
 Inv-loop pool n k point root levels j₀ left₀ reads₀ j left reads = (j < 2 ^ 32) × (left + reads ≤ levels) × (told reads (seek L pool point (left - 1) j) ≡ told 0 (seek L pool point (levels - 1) root))

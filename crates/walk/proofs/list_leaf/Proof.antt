@@ -1,17 +1,12 @@
+-- `walk::list_leaf` meets its contract: the tour of a point page.
 use Rattle.walk.proofs.List.{goes-on, leaf-bad, leaf-page, leaf-good}
 use Rattle.walk.specs.Pages.{pointWords}
 use Rattle.walk.specs.List.{arrived}
 use Rattle.kdb.specs.Calls.{windowOf}
-use mathlib.Core.Path.{_≡_, sym, ap, _∙_}
-use borrow.Author.Needs.{needs}
+use mathlib.Core.Path.{ap, _∙_}
 use native.Mathlib.Omega.{arith}
 use Rattle.walk.proofs.list_leaf.Statement.{statement}
 use Rattle.walk.proofs.list_leaf.Tie as tie
-use Rattle.walk.proofs.list_leaf.Reads as reads
-use Rattle.walk.proofs.list_leaf.Lts as lts
-use Rattle.walk.proofs.arrive.Reads as arrive-reads
-use Rattle.walk.proofs.list_points.Reads as list-points-reads
-use Rattle.walk.proofs.point_page.Reads as point-page-reads
 
 point-page-requires : tie.Need-point-page-requires
 point-page-requires c κs = (c .before .before .before .pre .0 .least, (c .before .before .before .pre .0 .few, c .before .before .before .pre .1 .1 .0))

@@ -1,20 +1,17 @@
+-- `walk::list_points` meets its contract: total and slots, with what is left of the records, are those of the whole.
 use Rattle.walk.proofs.List.{note-end, note-next}
 use Rattle.walk.proofs.Pages.{slot-in, slot-first, count-few}
 use Rattle.walk.specs.List.{noted, held, foundIn}
 use Rattle.words.specs.Words.{wordAt, pointAt}
-use Rattle.kdb.specs.Calls.{L, windowOf}
+use Rattle.kdb.specs.Calls.{windowOf}
 use lib.ListN.{length}
 use native.Mathlib.Nat.{sub-zero}
-use mathlib.Core.Path.{_≡_, refl, sym, ap, _∙_}
-use Prim.Native.Nat.{_+_, _-_, _*_, _≤_}
+use mathlib.Core.Path.{_≡_, refl, _∙_}
+use Prim.Native.Nat.{_+_, _-_, _≤_}
 use borrow.Author.Needs.{needs}
 use native.Mathlib.Omega.{arith}
 use Rattle.walk.proofs.list_points.Statement.{statement}
 use Rattle.walk.proofs.list_points.Tie as tie
-use Rattle.walk.proofs.list_points.Reads as reads
-use Rattle.walk.proofs.list_points.Lts as lts
-use Rattle.walk.proofs.visit.Reads as visit-reads
-use Rattle.words.proofs.word.Reads as word-reads
 
 abbrev Inv-loop : tie.InvT-loop
 Inv-loop pool k window answer₀ j total count t₀ e₀ answer t e = (e ≤ count) × (count ≡ wordAt pool j 1) × (t ≤ total + e) × (length answer ≡ length answer₀)

@@ -1,14 +1,11 @@
+-- `walk::list_walk` meets its contract: the walk from the root, if there is one.
 use Rattle.walk.proofs.List.{walk-none, walk-some}
 use Rattle.kdb.specs.Calls.{windowOf}
-use mathlib.Core.Path.{_≡_, sym, _∙_}
+use mathlib.Core.Path.{sym, _∙_}
 use borrow.Author.Needs.{needs}
 use native.Mathlib.Omega.{arith}
 use Rattle.walk.proofs.list_walk.Statement.{statement}
 use Rattle.walk.proofs.list_walk.Tie as tie
-use Rattle.walk.proofs.list_walk.Reads as reads
-use Rattle.walk.proofs.list_walk.Lts as lts
-use Rattle.walk.proofs.list_page.Reads as list-page-reads
-use Rattle.words.proofs.get.Reads as get-reads
 
 get-requires : tie.Need-get-requires
 get-requires c κs = search needs

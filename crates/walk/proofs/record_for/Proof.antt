@@ -1,3 +1,4 @@
+-- `walk::record_for` meets its contract: what is left of the records gives the end of the whole.
 use Rattle.walk.proofs.Seek.{record-end, record-here, record-next}
 use Rattle.walk.proofs.Pages.{slot-in, slot-first}
 use Rattle.walk.specs.Seek.{ended}
@@ -7,17 +8,12 @@ use Rattle.kdb.specs.Walk.{spots, spotOf}
 use Rattle.kdb.specs.Pages.{readRecs}
 use lib.ListN.{drop}
 use native.Mathlib.Nat.{sub-zero}
-use mathlib.Core.Path.{_≡_, refl, sym, ap, _∙_}
+use mathlib.Core.Path.{_≡_, sym, _∙_}
 use Prim.Native.Nat.{_+_, _-_, _*_, _≤_}
 use borrow.Author.Needs.{needs}
 use native.Mathlib.Omega.{arith}
 use Rattle.walk.proofs.record_for.Statement.{statement}
 use Rattle.walk.proofs.record_for.Tie as tie
-use Rattle.walk.proofs.record_for.Reads as reads
-use Rattle.walk.proofs.record_for.Lts as lts
-use Rattle.boxes.proofs.same_keys.Reads as same-keys-reads
-use Rattle.words.proofs.point_location.Reads as point-location-reads
-use Rattle.words.proofs.word.Reads as word-reads
 
 abbrev Inv-loop : tie.InvT-loop
 Inv-loop pool k point j reads count e₀ e = (e ≤ count) × (count ≡ wordAt pool j 1)

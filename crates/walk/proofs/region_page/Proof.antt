@@ -1,12 +1,7 @@
-use mathlib.Core.Path.{refl}
+-- `walk::region_page` meets its contract: kind and count, by the words.
 use borrow.Author.Needs.{needs}
-use native.Mathlib.Omega.{arith}
 use Rattle.walk.proofs.region_page.Statement.{statement}
 use Rattle.walk.proofs.region_page.Tie as tie
-use Rattle.walk.proofs.region_page.Reads as reads
-use Rattle.walk.proofs.region_page.Lts as lts
-use Rattle.words.proofs.regions_per.Reads as regions-per-reads
-use Rattle.words.proofs.word.Reads as word-reads
 
 word-requires : tie.Need-word-requires
 word-requires c κs = search needs

@@ -1,13 +1,9 @@
+-- `walk::search` meets its contract: the walk from the root, if there is one.
 use Rattle.walk.proofs.Seek.{search-none, search-some}
-use mathlib.Core.Path.{_≡_, sym, _∙_}
+use mathlib.Core.Path.{sym, _∙_}
 use borrow.Author.Needs.{needs}
-use native.Mathlib.Omega.{arith}
 use Rattle.walk.proofs.search.Statement.{statement}
 use Rattle.walk.proofs.search.Tie as tie
-use Rattle.walk.proofs.search.Reads as reads
-use Rattle.walk.proofs.search.Lts as lts
-use Rattle.walk.proofs.descend.Reads as descend-reads
-use Rattle.words.proofs.get.Reads as get-reads
 
 get-requires : tie.Need-get-requires
 get-requires c κs = search needs

@@ -1,13 +1,9 @@
+-- `walk::visit` meets its contract: a record that the window holds takes the next slot.
 use mathlib.Core.Path.{sym, _∙_}
 use borrow.Author.Needs.{needs}
 use native.Mathlib.Omega.{arith}
 use Rattle.walk.proofs.visit.Statement.{statement}
 use Rattle.walk.proofs.visit.Tie as tie
-use Rattle.walk.proofs.visit.Reads as reads
-use Rattle.walk.proofs.visit.Lts as lts
-use Rattle.boxes.proofs.in_window.Reads as in-window-reads
-use Rattle.words.proofs.point_location.Reads as point-location-reads
-use Rattle.words.proofs.put.Reads as put-reads
 
 in-window-requires : tie.Need-in-window-requires
 in-window-requires c κs = search needs
