@@ -1,15 +1,13 @@
 -- Laws of tests, counts and lists that every other proof cites.
 use mathlib.Core.Bool.{Bool, true, false, _&&_, _||_, not, cond}
-use mathlib.Core.List.{List, [], _∷_, _++_, map, append-assoc}
-use mathlib.Core.Path.{_≡_, refl, sym, ap, ap₂, _∙_}
+use mathlib.Core.List.{List, [], _∷_, _++_, map, append-assoc, append-nil}
+use mathlib.Core.Path.{_≡_, refl, sym, ap, ap₂, _∙_, subst}
 use Prim.Native.Nat.{ℕ, zero, suc, _+_, _-_, _*_, _<_, _≤_, min}
 use native.Mathlib.Omega.{arith}
-use lib.Dec.{T, leb, ltb, eqb, leb→le, le→leb, ltb→lt, lt→ltb, nleb→lt, nltb→le, eqb→eq, eqb-refl, T-not}
-use native.Mathlib.Nat.{zero-mul, suc-mul}
-use native.Mathlib.Nat.{zero-mul, suc-mul}
+use native.Mathlib.Nat.{zero-add, suc-add, zero-mul, suc-mul}
 use lib.Dec.{T, T-not, leb, ltb, eqb, leb→le, le→leb, ltb→lt, lt→ltb, nleb→lt, nltb→le, eqb→eq, eqb-refl}
-use lib.ListN.{length, take, drop, getD, length-append}
-use lib.Seq.{take-append-add, take-take}
+use lib.ListN.{length, take, drop, getD, set, length-append}
+use lib.Seq.{sets, take-append-add, take-take}
 use borrow.Author.Tests.{eq-eqb, ne-eqb}
 use Rattle.kdb.specs.Lists.{bit, only, tally, every, any, Each, gather, sum, many, upFrom, pad, same}
 
@@ -463,3 +461,126 @@ and-assoc false b c = refl
 pub and-true : (a : Bool) → a && true ≡ a
 and-true true = refl
 and-true false = refl
+
+-- pages' words: stores, padding, entries joined, and numbers that pass a test
+pub ne-of-bit : (c j : ℕ) → bit (eqb c j) ≡ 0 → (c ≡ j → ⊥)
+ne-of-bit c j h e = let g = self j in let u : bit (eqb j j) ≡ 0 = subst (λ i. bit (eqb i j) ≡ 0) e h in absurd (omega arith)
+
+-- a count is 0, or not
+pub none-of : (n : ℕ) → (1 ≤ n → ⊥) → n ≡ 0
+none-of zero h = refl
+none-of (suc n) h = absurd (h (omega arith))
+
+module _ {ℓ} {A : Type ℓ} where
+  pub append-each : (Q : A → Type 0) (l m : List A) → Each Q (l ++ m) → Each Q l × Each Q m
+  append-each Q [] m h = (tt, h)
+  append-each Q (a ∷ l) m h = let r = append-each Q l m (h .1) in ((h .0, r .0), r .1)
+
+  pub only-most : (g : A → Bool) (l : List A) → length (only g l) ≤ length l
+  only-most g l = omega (arith, length-only g l, tally-most g l)
+
+  pub set-append-add : (xs ys : List A) (n : ℕ) (a : A) → set (xs ++ ys) (length xs + n) a ≡ xs ++ set ys n a
+  set-append-add [] ys n a = ap (λ i. set ys i a) (zero-add n)
+  set-append-add (y ∷ xs) ys n a = ap (λ i. set (y ∷ (xs ++ ys)) i a) (suc-add (length xs) n) ∙ ap (λ r. y ∷ r) (set-append-add xs ys n a)
+
+  pub sets-cons : (a : A) (l : List A) (i : ℕ) (ys : List A) → sets (a ∷ l) (suc i) ys ≡ a ∷ sets l i ys
+  sets-cons a l i [] = refl
+  sets-cons a l i (y ∷ ys) = sets-cons a (set l i y) (suc i) ys
+
+  pub sets-nil : (i : ℕ) (ys : List A) → _≡_ {A = List A} (sets [] i ys) []
+  sets-nil i [] = refl
+  sets-nil i (y ∷ ys) = sets-nil (suc i) ys
+
+  pub sets-front : (xs ys zs : List A) → length zs ≡ length xs → sets (xs ++ ys) 0 zs ≡ zs ++ ys
+  sets-front [] ys [] h = refl
+  sets-front [] ys (z ∷ zs) h = absurd (omega arith)
+  sets-front (x ∷ xs) ys [] h = absurd (omega arith)
+  sets-front (x ∷ xs) ys (z ∷ zs) h = sets-cons z (xs ++ ys) 0 zs ∙ ap (λ r. z ∷ r) (sets-front xs ys zs (omega arith))
+
+  pub sets-all : (l ys : List A) → length ys ≡ length l → sets l 0 ys ≡ ys
+  sets-all l ys h = ap (λ v. sets v 0 ys) (sym (append-nil l)) ∙ (sets-front l [] ys h ∙ append-nil ys)
+
+module _ {ℓ κ} {A : Type ℓ} {B : Type κ} (g : A → List B) where
+  pub gather-append : (l m : List A) → gather g (l ++ m) ≡ gather g l ++ gather g m
+  gather-append [] m = refl
+  gather-append (a ∷ l) m = ap (λ r. g a ++ r) (gather-append l m) ∙ sym (append-assoc (g a) (gather g l) (gather g m))
+
+-- padding twice
+pub pad-pad : (n m : ℕ) (ws : List ℕ) → length ws ≤ n → n ≤ m → pad m (pad n ws) ≡ pad m ws
+pad-pad zero m [] h i = refl
+pad-pad zero m (a ∷ ws) h i = absurd (omega arith)
+pad-pad (suc n) zero ws h i = absurd (omega arith)
+pad-pad (suc n) (suc m) [] h i = ap (λ r. 0 ∷ r) (pad-pad n m [] (omega arith) (omega arith))
+pad-pad (suc n) (suc m) (a ∷ ws) h i = ap (λ r. a ∷ r) (pad-pad n m ws (omega arith) (omega arith))
+
+pub pad-add : (a b : ℕ) → pad (a + b) [] ≡ pad a [] ++ pad b []
+pad-add zero b = ap (λ i. pad i []) (zero-add b)
+pad-add (suc a) b = ap (λ i. pad i []) (suc-add a b) ∙ ap (λ r. 0 ∷ r) (pad-add a b)
+
+pub pad-sets : (n : ℕ) (ws u : List ℕ) → sets (pad n ws) (length ws) u ≡ pad n (ws ++ u)
+pad-sets zero ws u = sets-nil (length ws) u
+pad-sets (suc n) [] [] = refl
+pad-sets (suc n) [] (y ∷ u) = sets-cons y (pad n []) 0 u ∙ ap (λ r. y ∷ r) (pad-sets n [] u)
+pad-sets (suc n) (a ∷ ws) u = sets-cons a (pad n ws) (length ws) u ∙ ap (λ r. a ∷ r) (pad-sets n ws u)
+
+pub pad-set : (n : ℕ) (ws : List ℕ) (i v : ℕ) → i < length ws → set (pad n ws) i v ≡ pad n (set ws i v)
+pad-set n [] i v h = absurd (omega arith)
+pad-set zero (a ∷ ws) i v h = refl
+pad-set (suc n) (a ∷ ws) zero v h = refl
+pad-set (suc n) (a ∷ ws) (suc i) v h = ap (λ r. a ∷ r) (pad-set n ws i v (omega arith))
+
+-- the entry between goes, and zeros come behind
+pub pad-gap : (n : ℕ) (xs es ys : List ℕ) → length xs + (length es + length ys) ≤ n → sets (pad n (xs ++ (es ++ ys))) (length xs) (ys ++ pad (length es) []) ≡ pad n (xs ++ ys)
+pad-gap n [] es ys h =
+    let l = length-append es ys in
+    let m = length-append ys (pad (length es) []) in
+    let e : n - length ys ≡ length es + (n - length (es ++ ys)) = omega (arith, l) in
+    ap (λ v. sets v 0 (ys ++ pad (length es) [])) (pad-tail n (es ++ ys) (omega (arith, l)))
+    ∙ (sets-front (es ++ ys) (pad (n - length (es ++ ys)) []) (ys ++ pad (length es) []) (omega (arith, l, m, length-pad (length es) []))
+    ∙ (append-assoc ys (pad (length es) []) (pad (n - length (es ++ ys)) []) ∙ (ap (λ v. ys ++ v) (sym (pad-add (length es) (n - length (es ++ ys))) ∙ ap (λ i. pad i []) (sym e)) ∙ sym (pad-tail n ys (omega arith)))))
+pad-gap zero (x ∷ xs) es ys h = absurd (omega arith)
+pad-gap (suc n) (x ∷ xs) es ys h = sets-cons x (pad n (xs ++ (es ++ ys))) (length xs) (ys ++ pad (length es) []) ∙ ap (λ r. x ∷ r) (pad-gap n xs es ys (omega arith))
+
+-- of n numbers from c on, those that pass a test
+pub only-same : (g g′ : ℕ → Bool) (n c : ℕ) → ((i : ℕ) → c ≤ i → i < c + n → g′ i ≡ g i) → only g′ (upFrom n c) ≡ only g (upFrom n c)
+only-same g g′ zero c h = refl
+only-same g g′ (suc n) c h = ap₂ (λ t l. cond t (c ∷ l) l) (h c (omega arith) (omega arith)) (only-same g g′ n (suc c) (λ i k l. h i (omega arith) (omega arith)))
+
+pub only-in : (g : ℕ → Bool) (n c i : ℕ) → 1 ≤ many i (only g (upFrom n c)) → (c ≤ i) × (i < c + n) × T (g i)
+only-in g zero c i h = absurd (omega arith)
+only-in g (suc n) c i h = go (g c) refl h (only-in g n (suc c) i)
+  where
+    go : (t : Bool) → g c ≡ t → 1 ≤ many i (cond t (c ∷ only g (upFrom n (suc c))) (only g (upFrom n (suc c))))
+        → (1 ≤ many i (only g (upFrom n (suc c))) → (suc c ≤ i) × (i < suc c + n) × T (g i)) → (c ≤ i) × (i < c + suc n) × T (g i)
+    go true u v ih =
+        bool (eqb i c) (λ t. let q = eqb→eq i c t in (omega arith, omega arith, subst T (sym (ap g q ∙ u)) tt))
+        (λ t. let z = no-bit (eqb i c) (T-not (eqb i c) t) in let r = ih (omega arith) in (omega (arith, r .0), omega (arith, r .1), r .2))
+    go false u v ih = let r = ih v in (omega (arith, r .0), omega (arith, r .1), r .2)
+
+pub only-once : (g : ℕ → Bool) (n c i : ℕ) → many i (only g (upFrom n c)) ≤ 1
+only-once g zero c i = omega arith
+only-once g (suc n) c i = go (g c) (only-once g n (suc c) i) (only-in g n (suc c) i)
+  where
+    go : (t : Bool) → many i (only g (upFrom n (suc c))) ≤ 1 → (1 ≤ many i (only g (upFrom n (suc c))) → (suc c ≤ i) × (i < suc c + n) × T (g i))
+        → many i (cond t (c ∷ only g (upFrom n (suc c))) (only g (upFrom n (suc c)))) ≤ 1
+    go true ih k =
+        bool (eqb i c)
+        (λ t. let q = eqb→eq i c t in let b = to-bit (eqb i c) t in let z = none-of (many i (only g (upFrom n (suc c)))) (λ h. let r = k h in omega (arith, r .0)) in omega arith)
+        (λ t. let z = no-bit (eqb i c) (T-not (eqb i c) t) in omega arith)
+    go false ih k = ih
+
+-- the first of them no longer passes
+pub only-claimed : (g g′ : ℕ → Bool) (n c r : ℕ) (free : List ℕ) → ((i : ℕ) → bit (eqb i r) ≡ 0 → g′ i ≡ g i) → g′ r ≡ false → only g (upFrom n c) ≡ r ∷ free
+    → only g′ (upFrom n c) ≡ free
+only-claimed g g′ zero c r free same gone e = absurd (let z : 0 ≡ 1 + length free = ap length e ∙ omega arith in omega arith)
+only-claimed g g′ (suc n) c r free same gone e = go (g c) refl e (λ v. only-claimed g g′ n (suc c) r free same gone v)
+  where
+    go : (t : Bool) → g c ≡ t → cond t (c ∷ only g (upFrom n (suc c))) (only g (upFrom n (suc c))) ≡ r ∷ free
+        → (only g (upFrom n (suc c)) ≡ r ∷ free → only g′ (upFrom n (suc c)) ≡ free) → cond (g′ c) (c ∷ only g′ (upFrom n (suc c))) (only g′ (upFrom n (suc c))) ≡ free
+    go true u v ih =
+        let m : c ≡ r = ap (λ l. getD l 0 0) v in
+        let z : g′ c ≡ false = ap g′ m ∙ gone in
+        rw z (only-same g g′ n (suc c) (λ i k _. same i (no-bit (eqb i r) (λ t. let q = eqb→eq i r t in omega arith))) ∙ ap (drop 1) v)
+    go false u v ih =
+        let z : g′ c ≡ false = bool (eqb c r) (λ t. ap g′ (eqb→eq c r t) ∙ gone) (λ t. same c (no-bit (eqb c r) (T-not (eqb c r) t)) ∙ u) in
+        rw z (ih v)

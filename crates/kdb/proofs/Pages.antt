@@ -58,7 +58,7 @@ module _ {ℓ} {A : Type ℓ} (d : ℕ) (f : List ℕ → A) where
 abbrev recOf : ℕ → List ℕ → Rec
 recOf k ws = record { key = take k ws; loc = getD ws k 0 }
 
-abbrev entOf : ℕ → List ℕ → Ent
+abbrev pub entOf : ℕ → List ℕ → Ent
 entOf k ws = record { box = sides (take k ws) (take k (drop k ws)); child = getD ws (2 * k) 0 }
 
 recs-reads : (k n : ℕ) (ws : List ℕ) → readRecs k n ws ≡ reads (k + 1) (recOf k) n ws
@@ -87,10 +87,16 @@ sides-back : (b : Box) → sides (lows b) (highs b) ≡ b
 sides-back [] = refl
 sides-back (s ∷ b) = ap (λ c. s ∷ c) (sides-back b)
 
-both-length : (k : ℕ) (b : Box) → length b ≡ k → length (lows b ++ highs b) ≡ 2 * k
+pub sides-length : (k : ℕ) (ls us : List ℕ) → length ls ≡ k → length us ≡ k → length (sides ls us) ≡ k
+sides-length k [] us h g = h
+sides-length zero (l ∷ ls) us h g = absurd (omega arith)
+sides-length (suc k) (l ∷ ls) [] h g = absurd (omega arith)
+sides-length (suc k) (l ∷ ls) (u ∷ us) h g = ap suc (sides-length k ls us (omega arith) (omega arith))
+
+pub both-length : (k : ℕ) (b : Box) → length b ≡ k → length (lows b ++ highs b) ≡ 2 * k
 both-length k b h = length-append (lows b) (highs b) ∙ omega (arith, length-map b (λ s. s .lo), length-map b (λ s. s .hi), h)
 
-ent-back : (k : ℕ) (e : Ent) (zs : List ℕ) → length (e .box) ≡ k → entOf k (wordsE e ++ zs) ≡ e
+pub ent-back : (k : ℕ) (e : Ent) (zs : List ℕ) → length (e .box) ≡ k → entOf k (wordsE e ++ zs) ≡ e
 ent-back k e zs h =
     let ls = lows (e .box) in
     let us = highs (e .box) in
@@ -133,6 +139,16 @@ module _ (k n : ℕ) where
   pub recs-keys : (ws : List ℕ) → n * (k + 1) ≤ length ws → Each (λ r. length (r .key) ≡ k) (readRecs k n ws)
   recs-keys ws h = rw (recs-reads k n ws) (reads-each (k + 1) (recOf k) (λ r. length (r .key) ≡ k) (λ ws l. length-take-le k ws (omega arith)) n ws h)
 
+-- what is read from the words of records and of entries, with anything behind them
+module _ (k : ℕ) where
+  pub recs-back : (rs : List Rec) (zs : List ℕ) → Each (λ r. length (r .key) ≡ k) rs → readRecs k (length rs) (gather wordsR rs ++ zs) ≡ rs
+  recs-back rs zs h =
+      recs-reads k (length rs) (gather wordsR rs ++ zs) ∙ reads-back (k + 1) (recOf k) (λ r. length (r .key) ≡ k) wordsR (rec-back k) (rec-length k) rs zs h
+
+  pub ents-back : (es : List Ent) (zs : List ℕ) → Each (λ e. length (e .box) ≡ k) es → readEnts k (length es) (gather wordsE es ++ zs) ≡ es
+  ents-back es zs h =
+      ents-reads k (length es) (gather wordsE es ++ zs) ∙ reads-back (2 * k + 1) (entOf k) (λ e. length (e .box) ≡ k) wordsE (ent-back k) (ent-length k) es zs h
+
 -- a page that fits: keys and regions of k domains, counts within the room
 pub record FitsPage (L k : ℕ) (v : Page) : Type 0 where
   pub keys : Each (λ r. length (r .key) ≡ k) (recsIn v)
@@ -164,16 +180,14 @@ read-page L k (points d rs) f =
     let fit : length rs * (k + 1) ≤ L - 4 = points-fit L k (length rs) (f .pointRoom) in
     let zs = pad (L - 4 - length ws) [] in
     ap (points d)
-    (ap (readRecs k (length rs)) (pad-tail (L - 4) ws (omega arith))
-    ∙ (recs-reads k (length rs) (ws ++ zs) ∙ reads-back (k + 1) (recOf k) (λ r. length (r .key) ≡ k) wordsR (rec-back k) (rec-length k) rs zs (f .keys)))
+    (ap (readRecs k (length rs)) (pad-tail (L - 4) ws (omega arith)) ∙ recs-back k rs zs (f .keys))
 read-page L k (regions d es) f =
     let ws = gather wordsE es in
     let long : length ws ≡ length es * (2 * k + 1) = length-gather wordsE (2 * k + 1) es (each-map (λ e. length (e .box) ≡ k) (λ e. length (wordsE e) ≡ 2 * k + 1) es (ent-length k) (f .ends)) in
     let fit : length es * (2 * k + 1) ≤ L - 4 = regions-fit L k (length es) (f .regionRoom) in
     let zs = pad (L - 4 - length ws) [] in
     ap (regions d)
-    (ap (readEnts k (length es)) (pad-tail (L - 4) ws (omega arith))
-    ∙ (ents-reads k (length es) (ws ++ zs) ∙ reads-back (2 * k + 1) (entOf k) (λ e. length (e .box) ≡ k) wordsE (ent-back k) (ent-length k) es zs (f .ends)))
+    (ap (readEnts k (length es)) (pad-tail (L - 4) ws (omega arith)) ∙ ents-back k es zs (f .ends))
 
 -- pages do not overlap
 apart : (L c j : ℕ) → c < j → L * c + L ≤ L * j
