@@ -434,6 +434,7 @@ module _ {ℓ} {A : Type ℓ} where
 
   pub every-imp : (f g : A → Bool) → ((a : A) → T (f a) → T (g a)) → (l : List A) → T (every f l) → T (every g l)
   every-imp f g h l t = in-every g l (λ a m. h a (every-in f a l t m))
+
 -- a number of the n from a on, and what is counted in lists joined
 pub many-up : (n a i : ℕ) → a ≤ i → i < a + n → 1 ≤ many i (upFrom n a)
 many-up zero a i h g = absurd (omega arith)
@@ -449,6 +450,7 @@ tally-gather h g (a ∷ l) i k m =
     bool (eqb i a)
     (λ t. let q : tally h (g i) ≡ tally h (g a) = ap (λ j. tally h (g j)) (eqb→eq i a t) in omega arith)
     (λ t. omega (arith, tally-gather h g l i (omega (arith, no-bit (eqb i a) (T-not (eqb i a) t))) m))
+
 -- flags
 pub and-t : (a b : Bool) → a && b ≡ true → (a ≡ true) × (b ≡ true)
 and-t true b t = (refl, t)
