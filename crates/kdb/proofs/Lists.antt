@@ -4,9 +4,9 @@ use mathlib.Core.List.{List, [], _∷_, _++_, map, append-assoc, append-nil}
 use mathlib.Core.Path.{_≡_, refl, sym, ap, ap₂, _∙_, subst}
 use Prim.Native.Nat.{ℕ, zero, suc, _+_, _-_, _*_, _<_, _≤_, min}
 use native.Mathlib.Omega.{arith}
-use native.Mathlib.Nat.{zero-add, suc-add, zero-mul, suc-mul}
+use native.Mathlib.Nat.{zero-mul, suc-mul, zero-add, suc-add}
 use lib.Dec.{T, T-not, leb, ltb, eqb, leb→le, le→leb, ltb→lt, lt→ltb, nleb→lt, nltb→le, eqb→eq, eqb-refl}
-use lib.ListN.{length, take, drop, getD, set, length-append}
+use lib.ListN.{length, take, drop, getD, set, replicate, length-append}
 use lib.Seq.{sets, take-append-add, take-take}
 use borrow.Author.Tests.{eq-eqb, ne-eqb}
 use Rattle.kdb.specs.Lists.{bit, only, tally, every, any, Each, gather, sum, many, upFrom, pad, same}
@@ -468,6 +468,15 @@ and-true false = refl
 pub ne-of-bit : (c j : ℕ) → bit (eqb c j) ≡ 0 → (c ≡ j → ⊥)
 ne-of-bit c j h e = let g = self j in let u : bit (eqb j j) ≡ 0 = subst (λ i. bit (eqb i j) ≡ 0) e h in absurd (omega arith)
 
+-- a choice by a test whose value is known
+pub choice-true {ℓ} : {A : Type ℓ} (s : Bool) (y z : A) → s ≡ true → elim s as (λ _. A) [ true ↦ y | false ↦ z ] ≡ y
+choice-true true y z e = refl
+choice-true false y z e = absurd (of-true false e)
+
+pub choice-false {ℓ} : {A : Type ℓ} (s : Bool) (y z : A) → s ≡ false → elim s as (λ _. A) [ true ↦ y | false ↦ z ] ≡ z
+choice-false true y z e = absurd (of-false true e)
+choice-false false y z e = refl
+
 -- a count is 0, or not
 pub none-of : (n : ℕ) → (1 ≤ n → ⊥) → n ≡ 0
 none-of zero h = refl
@@ -489,11 +498,11 @@ module _ {ℓ} {A : Type ℓ} where
   sets-cons a l i [] = refl
   sets-cons a l i (y ∷ ys) = sets-cons a (set l i y) (suc i) ys
 
-  pub sets-nil : (i : ℕ) (ys : List A) → _≡_ {A = List A} (sets [] i ys) []
+  sets-nil : (i : ℕ) (ys : List A) → _≡_ {A = List A} (sets [] i ys) []
   sets-nil i [] = refl
   sets-nil i (y ∷ ys) = sets-nil (suc i) ys
 
-  pub sets-front : (xs ys zs : List A) → length zs ≡ length xs → sets (xs ++ ys) 0 zs ≡ zs ++ ys
+  sets-front : (xs ys zs : List A) → length zs ≡ length xs → sets (xs ++ ys) 0 zs ≡ zs ++ ys
   sets-front [] ys [] h = refl
   sets-front [] ys (z ∷ zs) h = absurd (omega arith)
   sets-front (x ∷ xs) ys [] h = absurd (omega arith)
@@ -507,6 +516,10 @@ module _ {ℓ κ} {A : Type ℓ} {B : Type κ} (g : A → List B) where
   gather-append [] m = refl
   gather-append (a ∷ l) m = ap (λ r. g a ++ r) (gather-append l m) ∙ sym (append-assoc (g a) (gather g l) (gather g m))
 
+pub pad-nil : (n : ℕ) → pad n [] ≡ replicate n 0
+pad-nil zero = refl
+pad-nil (suc n) = ap (λ r. 0 ∷ r) (pad-nil n)
+
 -- padding twice
 pub pad-pad : (n m : ℕ) (ws : List ℕ) → length ws ≤ n → n ≤ m → pad m (pad n ws) ≡ pad m ws
 pad-pad zero m [] h i = refl
@@ -515,7 +528,7 @@ pad-pad (suc n) zero ws h i = absurd (omega arith)
 pad-pad (suc n) (suc m) [] h i = ap (λ r. 0 ∷ r) (pad-pad n m [] (omega arith) (omega arith))
 pad-pad (suc n) (suc m) (a ∷ ws) h i = ap (λ r. a ∷ r) (pad-pad n m ws (omega arith) (omega arith))
 
-pub pad-add : (a b : ℕ) → pad (a + b) [] ≡ pad a [] ++ pad b []
+pad-add : (a b : ℕ) → pad (a + b) [] ≡ pad a [] ++ pad b []
 pad-add zero b = ap (λ i. pad i []) (zero-add b)
 pad-add (suc a) b = ap (λ i. pad i []) (suc-add a b) ∙ ap (λ r. 0 ∷ r) (pad-add a b)
 

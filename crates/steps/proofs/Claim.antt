@@ -1,30 +1,26 @@
 -- Claiming in place takes the first of the free pages. `free` is the list of the pages of kind 0, lowest first.
-use mathlib.Core.Bool.{Bool, true, false, cond}
+use mathlib.Core.Bool.{Bool}
 use mathlib.Core.List.{List, [], _∷_}
-use mathlib.Core.Path.{_≡_, refl, sym, ap, ap₂, _∙_, subst}
-use Prim.Native.Nat.{ℕ, zero, suc, _+_, _*_, _-_, _<_, _≤_}
+use mathlib.Core.Path.{_≡_, sym, ap, _∙_, subst}
+use Prim.Native.Nat.{ℕ, _-_, _<_, _≤_}
 use native.Mathlib.Omega.{arith}
 use lib.Dec.{T-not, eqb, eqb→eq}
 use lib.ListN.{length, getD}
 use borrow.Author.Tests.{eq-eqb, ne-eqb}
-use Rattle.kdb.specs.Lists.{bit, only, many, upFrom, pad}
+use Rattle.kdb.specs.Lists.{only, many, upFrom, pad}
 use Rattle.kdb.specs.Pages.{layout, page}
 use Rattle.kdb.proofs.Lists.{bool, self, no-bit, length-pad, only-same, only-in, only-once, only-claimed}
-use Rattle.steps.specs.Machine.{Claimed, word, freshIn}
-use Rattle.steps.specs.Claim.{freeFrom, lowest, claimIn}
+use Rattle.steps.specs.Machine.{word, freshIn}
+use Rattle.steps.specs.Claim.{lowest, claimIn}
 use Rattle.kdb.proofs.Pages.{word-at}
 use Rattle.steps.proofs.Machine.{Wrote, fresh}
 
-abbrev headOr : List ℕ → ℕ → ℕ
-headOr [] z = z
-headOr (a ∷ l) z = a
-
 -- the store leaves every page's kind
 module _ (L : ℕ) (big : 4 ≤ L) where
-  pub kind-at : (w : List ℕ) (c kd m e : ℕ) (ws : List ℕ) → page L w c ≡ layout L kd m e ws → word L w c 0 ≡ kd
+  kind-at : (w : List ℕ) (c kd m e : ℕ) (ws : List ℕ) → page L w c ≡ layout L kd m e ws → word L w c 0 ≡ kd
   kind-at w c kd m e ws h = sym (word-at L w c 0 (omega arith)) ∙ ap (λ p. getD p 0 0) h
 
-  pub kind-same : (w w′ : List ℕ) (c : ℕ) → page L w′ c ≡ page L w c → word L w′ c 0 ≡ word L w c 0
+  kind-same : (w w′ : List ℕ) (c : ℕ) → page L w′ c ≡ page L w c → word L w′ c 0 ≡ word L w c 0
   kind-same w w′ c h = sym (word-at L w′ c 0 (omega arith)) ∙ (ap (λ p. getD p 0 0) h ∙ word-at L w c 0 (omega arith))
 
   pub kinds : (w w′ : List ℕ) (j kd m m′ e e′ : ℕ) (ws ws′ : List ℕ) → page L w j ≡ layout L kd m e ws → Wrote L w j (layout L kd m′ e′ ws′) w′ → (c : ℕ) → word L w′ c 0 ≡ word L w c 0
@@ -44,27 +40,14 @@ module _ (L N : ℕ) where
     pub is : freeIn w ≡ free
     pub zeros : (c : ℕ) → 1 ≤ many c free → page L w c ≡ pad L []
 
-  lowest-from : (n : ℕ) (w : List ℕ) (c : ℕ) → freeFrom L N n w c ≡ headOr (only (blankAt w) (upFrom n c)) (c + n)
-  unfolding freeFrom
-  lowest-from zero w c = omega arith
-  lowest-from (suc n) w c = go (blankAt w c) (lowest-from n w (c + 1))
-    where
-      go : (t : Bool) → freeFrom L N n w (c + 1) ≡ headOr (only (blankAt w) (upFrom n (c + 1))) (c + 1 + n)
-          → cond t c (freeFrom L N n w (c + 1)) ≡ headOr (cond t (c ∷ only (blankAt w) (upFrom n (suc c))) (only (blankAt w) (upFrom n (suc c)))) (c + suc n)
-      go true ih = refl
-      go false ih =
-          let e : c + 1 ≡ suc c = omega arith in
-          let e2 : c + 1 + n ≡ c + suc n = omega arith in
-          ih ∙ ap₂ (λ i z. headOr (only (blankAt w) (upFrom n i)) z) e e2
-
-  lowest-is : (w free : List ℕ) → 1 ≤ N → Free w free → lowest L N w ≡ headOr free N
+  lowest-is : (w free : List ℕ) → Free w free → lowest L N w ≡ getD free 0 N
   unfolding lowest
-  lowest-is w free h f = let e : 1 + (N - 1) ≡ N = omega arith in lowest-from (N - 1) w 1 ∙ ap₂ headOr (f .is) e
+  lowest-is w free f = ap (λ l. getD l 0 N) (f .is)
 
-  pub free-range : (w free : List ℕ) → Free w free → (c : ℕ) → 1 ≤ many c free → (1 ≤ c) × (c < N)
+  free-range : (w free : List ℕ) → Free w free → (c : ℕ) → 1 ≤ many c free → (1 ≤ c) × (c < N)
   free-range w free f c h = let r = only-in (blankAt w) (N - 1) 1 c (subst (λ l. 1 ≤ many c l) (sym (f .is)) h) in (r .0, omega (arith, r .0, r .1))
 
-  pub free-once : (w free : List ℕ) → Free w free → (c : ℕ) → many c free ≤ 1
+  free-once : (w free : List ℕ) → Free w free → (c : ℕ) → many c free ≤ 1
   free-once w free f c = subst (λ l. many c l ≤ 1) (f .is) (only-once (blankAt w) (N - 1) 1 c)
 
   -- stores that leave every kind and the free pages
@@ -74,7 +57,7 @@ module _ (L N : ℕ) where
 
   pub claim-none : (w : List ℕ) (kd e : ℕ) → 1 ≤ N → Free w [] → claimIn L N kd e w ≡ record { page = 0; words = w }
   unfolding claimIn
-  claim-none w kd e one f = rw (eq-eqb (lowest L N w) N (lowest-is w [] one f))
+  claim-none w kd e one f = rw (eq-eqb (lowest L N w) N (lowest-is w [] f))
 
   -- what claiming r leaves
   pub record Took (w : List ℕ) (kd e r : ℕ) (free w′ : List ℕ) : Type 0 where
@@ -94,7 +77,7 @@ module _ (L N : ℕ) where
       let o = fresh L big w r kd e (ap length (f .zeros r (omega (arith, self r))) ∙ length-pad L []) in
       let w′ = freshIn L w r kd e in
       record {
-        is = claim-turn w kd e r (lowest-is w (r ∷ free) one f) (g .1);
+        is = claim-turn w kd e r (lowest-is w (r ∷ free) f) (g .1);
         wrote = o;
         low = g .0;
         high = g .1;

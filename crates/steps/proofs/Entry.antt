@@ -1,12 +1,12 @@
 -- The words of an entry: where its ends and its child stand, and what a store of one word makes of it.
 use mathlib.Core.Bool.{false}
 use mathlib.Core.List.{List, [], _∷_, _++_, append-assoc}
-use mathlib.Core.Path.{_≡_, refl, sym, ap, ap₂, _∙_, subst}
-use Prim.Native.Nat.{ℕ, zero, suc, _+_, _*_, _<_, _≤_}
+use mathlib.Core.Path.{_≡_, refl, sym, ap, ap₂, _∙_}
+use Prim.Native.Nat.{ℕ, zero, suc, _+_, _*_, _<_}
 use native.Mathlib.Omega.{arith}
 use lib.ListN.{length, take, drop, getD, set, length-map, List·getD-append}
 use lib.Seq.{getD-append-add, getD-at, set-at, getD-drop, take-at, drop-at, drop-drop}
-use Rattle.kdb.specs.Box.{Box, keyAt, lowerAt, upperAt, leftPart, rightPart}
+use Rattle.kdb.specs.Box.{Box, sides, keyAt, lowerAt, upperAt, leftPart, rightPart}
 use Rattle.kdb.specs.Tree.{Rec}
 use Rattle.kdb.specs.Pages.{Ent, wordsR, wordsE}
 use Rattle.kdb.proofs.Lists.{set-append-add}
@@ -98,4 +98,4 @@ module _ (src : List ℕ) (a wd : ℕ) (u zs : List ℕ) (h : drop a src ≡ u +
 
 -- the region at word a
 pub box-at : (k : ℕ) (b : Box) (c : ℕ) → length b ≡ k → (src : List ℕ) (a : ℕ) (zs : List ℕ) → drop a src ≡ wordsE (ent b c) ++ zs → boxAt k src a ≡ b
-box-at k b c n src a zs h = ap (λ v. entOf k v .box) h ∙ ap (λ e. e .box) (ent-back k (ent b c) zs n)
+box-at k b c n src a zs h = ap (λ v. sides (take k (drop a src)) (take k v)) (sym (drop-drop k a src)) ∙ (ap (λ v. entOf k v .box) h ∙ ap (λ e. e .box) (ent-back k (ent b c) zs n))

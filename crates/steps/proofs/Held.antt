@@ -1,7 +1,7 @@
 -- A tree's pages in a store, by recursion on the tree, and the part of a tree's shape that its words hang on: one level for all point
 -- pages, keys and regions of k domains, no page overfull.
-use mathlib.Core.List.{List, [], _∷_, _++_}
-use mathlib.Core.Path.{_≡_, refl, sym, ap, _∙_}
+use mathlib.Core.List.{List, _∷_, _++_}
+use mathlib.Core.Path.{_≡_, refl, ap, _∙_}
 use Prim.Native.Nat.{ℕ, zero, suc, _+_, _*_, _≤_}
 use native.Mathlib.Omega.{arith}
 use lib.ListN.{length}

@@ -4,3 +4,7 @@ pub mod Held
 pub mod Claim
 pub mod Pass
 pub mod Split
+pub mod Grow
+pub mod Stood
+pub mod Place
+pub mod Remove

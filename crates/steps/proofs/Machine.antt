@@ -1,18 +1,18 @@
 -- Stores to a pool, seen page by page: every store leaves one record, the page that it wrote, the others as they were, the pool as long
 -- as it was.
-use mathlib.Core.Bool.{Bool, true, false, cond}
+use mathlib.Core.Bool.{true}
 use mathlib.Core.List.{List, [], _∷_, _++_}
-use mathlib.Core.Path.{_≡_, refl, sym, ap, ap₂, _∙_, subst}
-use Prim.Native.Nat.{ℕ, zero, suc, _+_, _*_, _-_, _<_, _≤_}
+use mathlib.Core.Path.{_≡_, refl, sym, ap, ap₂, _∙_, subst, subst₂}
+use Prim.Native.Nat.{ℕ, suc, _+_, _*_, _-_, _≤_}
 use native.Mathlib.Omega.{arith}
 use native.Mathlib.Nat.{add-zero, suc-mul}
 use lib.Dec.{leb, eqb}
-use lib.ListN.{length, take, drop, getD, set, length-append}
+use lib.ListN.{length, drop, getD, set, length-append}
 use lib.Seq.{sets, length-sets}
 use borrow.Author.Tests.{le-leb}
 use Rattle.kdb.specs.Lists.{bit, pad}
 use Rattle.kdb.specs.Pages.{layout, page}
-use Rattle.kdb.proofs.Lists.{ne-of-bit, sets-cons, sets-all, length-pad, pad-sets, pad-tail, pad-pad}
+use Rattle.kdb.proofs.Lists.{ne-of-bit, sets-cons, sets-all, length-pad, pad-sets, pad-nil, pad-tail, pad-pad}
 use Rattle.kdb.proofs.Pages.{page-sets, page-sets-other, word-at}
 use Rattle.steps.specs.Machine.{word, freshIn, appendIn, overfull}
 
@@ -29,7 +29,7 @@ module _ (L : ℕ) where
       record { here = page-sets L w j i ys h; there = λ c z. page-sets-other L w j i ys c h (ne-of-bit c j z); long = length-sets w (L * j + i) ys }
 
   -- one store after another
-  pub then-wrote : (w w1 w2 : List ℕ) (j : ℕ) (v v′ : List ℕ) → Wrote L w j v w1 → Wrote L w1 j v′ w2 → Wrote L w j v′ w2
+  then-wrote : (w w1 w2 : List ℕ) (j : ℕ) (v v′ : List ℕ) → Wrote L w j v w1 → Wrote L w1 j v′ w2 → Wrote L w j v′ w2
   then-wrote w w1 w2 j v v′ a b = record { here = b .here; there = λ c z. b .there c z ∙ a .there c z; long = b .long ∙ a .long }
 
 four : (i : ℕ) → 4 + i ≡ suc (suc (suc (suc i)))
@@ -60,10 +60,10 @@ module _ (L : ℕ) (big : 4 ≤ L) where
       let o = then-wrote L w w1 w2 c _ _ a b in
       let r : Wrote L w c (layout L kd 0 e []) (set w2 (L * c + 2) e) =
       record { here = d .here ∙ (ap (λ v. set v 2 e) (b .here ∙ ap (λ v. set v 0 kd) (a .here)) ∙ q); there = λ i t. d .there i t ∙ o .there i t; long = d .long ∙ o .long } in
-      subst (λ i. Wrote L w c (layout L kd 0 e []) (set (set (sets w i (pad L [])) i kd) (L * c + 2) e)) z r
+      subst₂ (λ i v. Wrote L w c (layout L kd 0 e []) (set (set (sets w i v) i kd) (L * c + 2) e)) z (pad-nil L) r
 
   module _ (wd : ℕ) (w : List ℕ) (c kd m e : ℕ) (ws u : List ℕ) (h : page L w c ≡ layout L kd m e ws) (n : length ws ≡ m * wd) (l : length u ≡ wd) where
-    pub count-at : word L w c 1 ≡ m
+    count-at : word L w c 1 ≡ m
     count-at = sym (word-at L w c 1 (omega arith)) ∙ ap (λ p. getD p 1 0) h
 
     pub append : 4 + suc m * wd ≤ L → Wrote L w c (layout L kd (suc m) e (ws ++ u)) (appendIn L wd w c u)

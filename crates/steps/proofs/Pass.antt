@@ -1,11 +1,11 @@
 -- Two pages being filled from a copy, entry by entry; the pass over a page's records deals them out as the tree does.
-use mathlib.Core.Bool.{Bool, true, false, not, cond}
+use mathlib.Core.Bool.{true, false}
 use mathlib.Core.List.{List, [], _∷_, _++_, append-assoc, append-nil}
 use mathlib.Core.Path.{_≡_, refl, sym, ap, ap₂, _∙_, subst}
-use Prim.Native.Nat.{ℕ, zero, suc, _+_, _*_, _-_, _<_, _≤_}
+use Prim.Native.Nat.{ℕ, suc, _+_, _*_, _<_, _≤_}
 use native.Mathlib.Omega.{arith}
 use native.Mathlib.Nat.{mul-le-mul-right, add-zero, zero-add, suc-mul, zero-mul}
-use lib.Dec.{T, T-not, ltb, eqb, ltb→lt, nltb→le, eqb→eq}
+use lib.Dec.{ltb, eqb, ltb→lt, nltb→le}
 use lib.ListN.{length, take, drop, getD, length-append}
 use borrow.Author.Tests.{lt-ltb, le-ltb}
 use Rattle.kdb.specs.Lists.{bit, only, many, gather}
@@ -13,7 +13,7 @@ use Rattle.kdb.specs.Box.{keyAt}
 use Rattle.kdb.specs.Tree.{Rec}
 use Rattle.kdb.specs.Cut.{isLeft, isRight}
 use Rattle.kdb.specs.Pages.{layout, wordsR, page}
-use Rattle.kdb.proofs.Lists.{bool, self, no-bit}
+use Rattle.kdb.proofs.Lists.{bool, self}
 use Rattle.kdb.proofs.Pages.{rec-length}
 use Rattle.steps.specs.Machine.{word, freshIn, appendIn}
 use Rattle.steps.specs.Split.{pointsIn}

@@ -1,20 +1,20 @@
 -- The split in place of the page where a tree stands is the split of the tree: `splits`. Where a page is wanting both fail.
-use mathlib.Core.Bool.{Bool, true, false, cond}
+use mathlib.Core.Bool.{Bool, true, false}
 use mathlib.Core.List.{List, [], _∷_, _++_, append-assoc}
 use mathlib.Core.Option.{Option, none, some}
 use mathlib.Core.Path.{_≡_, refl, sym, ap, ap₂, _∙_, subst}
 use Prim.Native.Nat.{ℕ, zero, suc, _+_, _*_, _-_, _<_, _≤_}
 use native.Mathlib.Omega.{arith}
-use native.Mathlib.Nat.{mul-le-mul-right, zero-add}
-use lib.Dec.{leb, eqb}
+use native.Mathlib.Nat.{mul-le-mul-right, zero-add, add-assoc}
+use lib.Dec.{eqb}
 use lib.ListN.{length, take, drop, getD, set}
 use borrow.Author.Tests.{le-leb, lt-leb, eq-eqb, ne-eqb}
 use Rattle.kdb.specs.Lists.{bit, only, many, gather, pad, andThen}
 use Rattle.kdb.specs.Box.{Box, lowerAt, upperAt, leftPart, rightPart}
 use Rattle.kdb.specs.Tree.{Rec, Tree, leaf, node, Forest, fnil, fcons, root, dom, boxes, pages, pagesF}
-use Rattle.kdb.specs.Cut.{Lies, left, right, across, lies, isLeft, isRight}
+use Rattle.kdb.specs.Cut.{Lies, left, right, across, isLeft, isRight}
 use Rattle.kdb.specs.Steps.{Two, TwoF, deal, split, splitF, afterForced, size}
-use Rattle.kdb.specs.Pages.{points, regions, layout, wordsR, wordsE, printPage, page}
+use Rattle.kdb.specs.Pages.{points, layout, wordsR, wordsE, printPage, page}
 use Rattle.kdb.specs.Print.{ents}
 use Rattle.kdb.proofs.Lists.{self, many-append, each-only, only-most, pad-tail}
 use Rattle.kdb.proofs.Tiling.{lies-case, keep, parts, part-length}
@@ -24,10 +24,10 @@ use Rattle.steps.specs.Claim.{claimIn}
 use Rattle.steps.specs.Split.{pointsIn, entriesIn, partPoints, through, partRegions, splitIn}
 use Rattle.steps.proofs.Entry.{ent, entry-lower, entry-upper, entry-child, entry-left, entry-right, words-at, words-after, word-in}
 use Rattle.steps.proofs.Held.{Holds, HoldsF, frame, frameF, Keys, Fits, FitsF, records-length, entries-length, size-ents, size-boxes}
-use Rattle.steps.proofs.Claim.{Free, claim-none, claim-some, Took}
+use Rattle.steps.proofs.Claim.{Free, claim-none, claim-some}
 use Rattle.steps.proofs.Pass.{Cursor, Moved, to-left, to-right, left-moved, right-moved, then-moved, free-moved, count-on, count-off, opened, dealt}
 
-pub parts-most : (s : Bool) (d x : ℕ) (bs : List Box) → length (parts s d x bs) ≤ length bs
+parts-most : (s : Bool) (d x : ℕ) (bs : List Box) → length (parts s d x bs) ≤ length bs
 parts-most s d x [] = omega arith
 parts-most true d x (b ∷ bs) =
     let ih = parts-most true d x bs in
@@ -74,7 +74,7 @@ module _ (L N : ℕ) where
 
 -- one turn of the pass over entries
 module _ (L k d x : ℕ) (below : ℕ → List ℕ → Claimed) (n : ℕ) (src : List ℕ) (a j r : ℕ) (w : List ℕ) (u : List ℕ) (lo hi c : ℕ)
-    (q : take (2 * k + 1) (drop a src) ≡ u) (ql : getD src (a + d) 0 ≡ lo) (qh : getD src (a + (k + d)) 0 ≡ hi) (qc : getD src (a + 2 * k) 0 ≡ c) where
+    (q : take (2 * k + 1) (drop a src) ≡ u) (ql : getD src (a + d) 0 ≡ lo) (qh : getD src (a + k + d) 0 ≡ hi) (qc : getD src (a + 2 * k) 0 ≡ c) where
   entries-left : hi ≤ x → entriesIn L k d x below (suc n) src a j r w ≡ entriesIn L k d x below n src (a + (2 * k + 1)) j r (appendIn L (2 * k + 1) w j u)
   unfolding entriesIn
   entries-left h = rw (q, qh, le-leb hi x h)
@@ -188,8 +188,8 @@ module _ (L N k d x R P : ℕ) (big : 4 ≤ L) (low : d < k) where
     lo : getD src (a + d) 0 ≡ lowerAt d b
     lo = word-in src a (2 * k + 1) (wordsE (ent b (root t))) (gather wordsE (ents f) ++ zs) at long d (omega arith) ∙ entry-lower k b (root t) (fit .0) d low
 
-    hi : getD src (a + (k + d)) 0 ≡ upperAt d b
-    hi = word-in src a (2 * k + 1) (wordsE (ent b (root t))) (gather wordsE (ents f) ++ zs) at long (k + d) (omega arith) ∙ entry-upper k b (root t) (fit .0) d low
+    hi : getD src (a + k + d) 0 ≡ upperAt d b
+    hi = ap (λ i. getD src i 0) (add-assoc a k d) ∙ (word-in src a (2 * k + 1) (wordsE (ent b (root t))) (gather wordsE (ents f) ++ zs) at long (k + d) (omega arith) ∙ entry-upper k b (root t) (fit .0) d low)
 
     child : getD src (a + 2 * k) 0 ≡ root t
     child = word-in src a (2 * k + 1) (wordsE (ent b (root t))) (gather wordsE (ents f) ++ zs) at long (2 * k) (omega arith) ∙ entry-child k b (root t) (fit .0)
@@ -273,7 +273,7 @@ module _ (L N k d x R P : ℕ) (big : 4 ≤ L) (low : d < k) where
       to-both ok cur =
           crossing (split k d x t (afterForced k (dom t)) free) (below (root t) w) refl (ok .good t w free (fit .1) (held .0) fr (λ c. omega (arith, once c))) cur
 
-  pub pass : (below : ℕ → List ℕ → Claimed) (n : ℕ) → Good n below → (f : Forest) → Pass below n f
+  pass : (below : ℕ → List ℕ → Claimed) (n : ℕ) → Good n below → (f : Forest) → Pass below n f
   unfolding Pass entriesIn
   pass below n ok fnil src zs a j r e w free mL wsL mR wsR D fit cur held fr once =
       record {
@@ -474,7 +474,7 @@ module _ (k R P d x : ℕ) where
     fit-across (some s) g v i = fit-two s g (v (s .free)) (i (s .free))
 
   mutual
-    pub split-fits : (t : Tree) (n e : ℕ) (free : List ℕ) → Fits k R P t n → All (Both n) (split k d x t e free)
+    split-fits : (t : Tree) (n e : ℕ) (free : List ℕ) → Fits k R P t n → All (Both n) (split k d x t e free)
     split-fits (leaf p e₀ rs) n e [] h = tt
     split-fits (leaf p e₀ rs) n e (q ∷ free) h = (
       (h .0, omega (arith, only-most (isLeft d x) rs, h .1), each-only (λ r. length (r .key) ≡ k) (isLeft d x) rs (h .2)),

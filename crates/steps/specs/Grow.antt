@@ -25,7 +25,7 @@ brokeAt d x o = cond (eqb (o .page) 0) (record { how = short; words = o .words }
 
 -- the region whose lower ends, then upper ends, stand from word a on
 abbrev pub boxAt : ℕ → List ℕ → ℕ → Box
-boxAt k src a = sides (take k (drop a src)) (take k (drop k (drop a src)))
+boxAt k src a = sides (take k (drop a src)) (take k (drop (a + k) src))
 
 -- the place of the first of n entries from word a on whose region holds the point, or 0
 unfoldable pub seekIn : ℕ → Key → ℕ → List ℕ → ℕ → ℕ
@@ -50,7 +50,7 @@ module _ (L N k R P : ℕ) where
       let wd = 2 * k + 1 in
       let m = word L w j 1 in
       let u = set (set (take wd (drop a w)) d x) (2 * k) r in
-      let v = set w (a + (k + d)) x in
+      let v = set w (a + k + d) x in
       let src = overfull L wd v j u in
       let roomy : Grown = record { how = fine; words = appendIn L wd v j u } in
       let full = breakRegions n (cutRegions k (word L w j 2) (map (λ e. e .box) (readEnts k (m + 1) (drop 4 src)))) src (m + 1) j v in

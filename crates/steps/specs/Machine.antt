@@ -1,10 +1,10 @@
 -- The stores that every step on words is made of. A step's name ends in `In` where it works in place, on a pool's words. L is the words of
 -- a page, wd the words of an entry.
 use mathlib.Core.Bool.{Bool, cond}
-use mathlib.Core.List.{List, [], _∷_}
+use mathlib.Core.List.{List}
 use Prim.Native.Nat.{ℕ, _+_, _*_}
 use lib.Dec.{leb}
-use lib.ListN.{getD, set}
+use lib.ListN.{getD, set, replicate}
 use lib.Seq.{sets}
 use Rattle.kdb.specs.Lists.{pad}
 use Rattle.kdb.specs.Pages.{page}
@@ -26,7 +26,7 @@ module _ (L : ℕ) where
 
   -- page c becomes a page with no entry: cleared, then its kind and its splitting domain
   unfoldable pub freshIn : List ℕ → ℕ → ℕ → ℕ → List ℕ
-  freshIn w c kind e = set (set (sets w (L * c) (pad L [])) (L * c) kind) (L * c + 2) e
+  freshIn w c kind e = set (set (sets w (L * c) (replicate L 0)) (L * c) kind) (L * c + 2) e
 
   -- the entry u goes behind the last entry of page c, unless the page ends there
   unfoldable pub appendIn : ℕ → List ℕ → ℕ → List ℕ → List ℕ

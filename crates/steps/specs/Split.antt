@@ -30,7 +30,7 @@ module _ (L k d x : ℕ) where
       let child = below (getD src (a + 2 * k) 0) w in
       let half = appendIn L wd (child .words) j (set u (k + d) x) in
       let both = entriesIn below n src (a + wd) j r (appendIn L wd half r (set (set u d x) (2 * k) (child .page))) in
-      cond (leb (getD src (a + (k + d)) 0) x) toLeft
+      cond (leb (getD src (a + k + d) 0) x) toLeft
       (cond (leb x (getD src (a + d) 0)) toRight
       (cond (eqb (child .page) 0) (record { ok = false; words = child .words }) both))
 
