@@ -162,7 +162,7 @@ half-words k src a i x q zs h =
     let u = take wd (drop a src) in
     let n : length u ≤ wd = omega (arith, length-take wd (drop a src)) in
     let e : take (length u) (set (set (sets zs 0 u) i x) (2 * k) q) ≡ halfIn k src a i x q =
-        take-set (length u) (set (sets zs 0 u) i x) (2 * k) q ∙ ap (λ l. set l (2 * k) q) (take-set (length u) (sets zs 0 u) i x ∙ ap (λ l. set l i x) (take-sets zs u (omega arith))) in
+    take-set (length u) (set (sets zs 0 u) i x) (2 * k) q ∙ ap (λ l. set l (2 * k) q) (take-set (length u) (sets zs 0 u) i x ∙ ap (λ l. set l i x) (take-sets zs u (omega arith))) in
     ap (take wd) e ∙ take-all wd (halfIn k src a i x q) (omega (arith, length-set (set u i x) (2 * k) q, length-set u i x))
 
 -- the left half keeps its child
@@ -170,7 +170,7 @@ pub half-left : (k d x : ℕ) (src : List ℕ) (a : ℕ) → d < k → halfIn k 
 half-left k d x src a h =
     let u = take (2 * k + 1) (drop a src) in
     let e : getD src (a + 2 * k) 0 ≡ getD (set u (k + d) x) (2 * k) 0 =
-        sym (getD-set-other u (k + d) (2 * k) x 0 (λ z. omega arith) ∙ getD-take (2 * k + 1) (drop a src) (2 * k) 0 (omega arith) ∙ getD-drop a src (2 * k) 0) in
+    sym (getD-set-other u (k + d) (2 * k) x 0 (λ z. omega arith) ∙ getD-take (2 * k + 1) (drop a src) (2 * k) 0 (omega arith) ∙ getD-drop a src (2 * k) 0) in
     ap (set (set u (k + d) x) (2 * k)) e ∙ set-getD (set u (k + d) x) (2 * k) 0
 
 pub both-is : (k d x : ℕ) (src : List ℕ) (a j r q : ℕ) (w : List ℕ) → d < k

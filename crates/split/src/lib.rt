@@ -25,7 +25,11 @@ pub fn has(src: &[u32], from: usize, count: usize) -> usize
     if len <= from {
         return 0;
     }
-    if len - from < count { len - from } else { count }
+    if len - from < count {
+        len - from
+    } else {
+        count
+    }
 }
 
 // Copies `count` words of src from `from` on over x's words from `at` on, as far as both go.
@@ -77,7 +81,7 @@ pub fn append(pool: &mut [u32], wd: usize, c: usize, src: &[u32], a: usize)
 }
 
 // Claims the right page, and clears page j for the left: the right page, or 0.
-pub fn open(pool: &mut [u32], n: usize, kind: usize, e: usize, j: usize) -> usize
+pub fn open_pages(pool: &mut [u32], n: usize, kind: usize, e: usize, j: usize) -> usize
     requires { ⌜ (1 ≤ n) × ((n ≤ 512) × ((kind < 2 ^ 32) × ((e < 2 ^ 32) × (j < 2 ^ 32)))) ⌝ }
     ensures { λ r. ⌜ (claimed r (now (pool .exit)) ≡ openIn n kind e j (now (pool .entry))) × (r < n) ⌝ }
 {
@@ -90,7 +94,16 @@ pub fn open(pool: &mut [u32], n: usize, kind: usize, e: usize, j: usize) -> usiz
 }
 
 // The record at word a of src goes to page j if its key is below x, else to page r.
-fn deal_point(pool: &mut [u32], k: usize, d: usize, x: usize, src: &[u32], a: usize, j: usize, r: usize)
+fn deal_point(
+    pool: &mut [u32],
+    k: usize,
+    d: usize,
+    x: usize,
+    src: &[u32],
+    a: usize,
+    j: usize,
+    r: usize,
+)
     requires { ⌜ (k ≤ 4) × ((d ≤ 4) × ((a < 2 ^ 40) × ((j < 2 ^ 32) × (r < 2 ^ 32)))) ⌝ }
     ensures { λ _. ⌜ now (pool .exit) ≡ appendIn L (k + 1) (now (pool .entry)) (cond (ltb (getD (now (src .entry)) (a + d) 0) x) j r) (take (k + 1) (drop a (now (src .entry)))) ⌝ }
 {
@@ -102,7 +115,16 @@ fn deal_point(pool: &mut [u32], k: usize, d: usize, x: usize, src: &[u32], a: us
 }
 
 // The m records of src are dealt out.
-fn deal_points(pool: &mut [u32], k: usize, d: usize, x: usize, src: &[u32], m: usize, j: usize, r: usize)
+fn deal_points(
+    pool: &mut [u32],
+    k: usize,
+    d: usize,
+    x: usize,
+    src: &[u32],
+    m: usize,
+    j: usize,
+    r: usize,
+)
     requires { ⌜ (k ≤ 4) × ((d ≤ 4) × ((m < 2 ^ 33) × ((j < 2 ^ 32) × (r < 2 ^ 32)))) ⌝ }
     ensures { λ _. ⌜ now (pool .exit) ≡ pointsIn L k d x m (now (src .entry)) 4 j r (now (pool .entry)) ⌝ }
 {
@@ -116,11 +138,21 @@ fn deal_points(pool: &mut [u32], k: usize, d: usize, x: usize, src: &[u32], m: u
 }
 
 // The m records of src go to page j and a claimed page, both of domain e: the claimed page, or 0.
-pub fn part_points(pool: &mut [u32], n: usize, k: usize, d: usize, x: usize, src: &[u32], m: usize, e: usize, j: usize) -> usize
+pub fn part_points(
+    pool: &mut [u32],
+    n: usize,
+    k: usize,
+    d: usize,
+    x: usize,
+    src: &[u32],
+    m: usize,
+    e: usize,
+    j: usize,
+) -> usize
     requires { ⌜ (Cutting n k d x) × ((m < 2 ^ 33) × ((e < 2 ^ 32) × (j < 2 ^ 32))) ⌝ }
     ensures { λ r. ⌜ (claimed r (now (pool .exit)) ≡ partPoints L n k d x (now (src .entry)) m e j (now (pool .entry))) × (r < n) ⌝ }
 {
-    let r = open(pool, n, 2, e, j);
+    let r = open_pages(pool, n, 2, e, j);
     if r == 0 {
         return 0;
     }
@@ -137,7 +169,16 @@ fn crosses(src: &[u32], k: usize, d: usize, x: usize, a: usize) -> bool
 }
 
 // The entry at word a of src, which does not cross, goes to its side.
-fn deal_entry(pool: &mut [u32], k: usize, d: usize, x: usize, src: &[u32], a: usize, j: usize, r: usize)
+fn deal_entry(
+    pool: &mut [u32],
+    k: usize,
+    d: usize,
+    x: usize,
+    src: &[u32],
+    a: usize,
+    j: usize,
+    r: usize,
+)
     requires { ⌜ (k ≤ 4) × ((d ≤ 4) × ((a < 2 ^ 40) × ((j < 2 ^ 32) × (r < 2 ^ 32)))) ⌝ }
     ensures { λ _. ⌜ now (pool .exit) ≡ appendIn L (2 * k + 1) (now (pool .entry)) (cond (leb (getD (now (src .entry)) (a + k + d) 0) x) j r) (take (2 * k + 1) (drop a (now (src .entry)))) ⌝ }
 {
@@ -159,7 +200,16 @@ pub fn half(to: &mut [u32], k: usize, src: &[u32], a: usize, i: usize, x: usize,
 }
 
 // One half of the entry at word a of src goes behind the last entry of page c: its word i becomes x, its child q.
-pub fn append_half(pool: &mut [u32], k: usize, c: usize, src: &[u32], a: usize, i: usize, x: usize, q: usize)
+pub fn append_half(
+    pool: &mut [u32],
+    k: usize,
+    c: usize,
+    src: &[u32],
+    a: usize,
+    i: usize,
+    x: usize,
+    q: usize,
+)
     requires { ⌜ (k ≤ 4) × ((c < 2 ^ 32) × ((a < 2 ^ 40) × ((x < 2 ^ 32) × (q < 2 ^ 32)))) ⌝ }
     ensures { λ _. ⌜ now (pool .exit) ≡ appendIn L (2 * k + 1) (now (pool .entry)) c (halfIn k (now (src .entry)) a i x q) ⌝ }
 {
@@ -170,7 +220,17 @@ pub fn append_half(pool: &mut [u32], k: usize, c: usize, src: &[u32], a: usize, 
 }
 
 // The halves of the entry at word a of src go to pages j and r; q is the child's right page.
-fn deal_both(pool: &mut [u32], k: usize, d: usize, x: usize, src: &[u32], a: usize, j: usize, r: usize, q: usize)
+fn deal_both(
+    pool: &mut [u32],
+    k: usize,
+    d: usize,
+    x: usize,
+    src: &[u32],
+    a: usize,
+    j: usize,
+    r: usize,
+    q: usize,
+)
     requires { ⌜ (k ≤ 4) × ((d < k) × ((x < 2 ^ 32) × ((a < 2 ^ 40) × ((j < 2 ^ 32) × ((r < 2 ^ 32) × (q < 2 ^ 32)))))) ⌝ }
     ensures { λ _. ⌜ now (pool .exit) ≡ bothIn k d x (now (src .entry)) a j r q (now (pool .entry)) ⌝ }
 {
@@ -179,7 +239,15 @@ fn deal_both(pool: &mut [u32], k: usize, d: usize, x: usize, src: &[u32], a: usi
 }
 
 // Splits page j, `level` levels above the point pages, along x in domain d: the right page, or 0 where a page is wanting.
-fn split_page(pool: &mut [u32], n: usize, k: usize, d: usize, x: usize, level: usize, j: usize) -> usize
+fn split_page(
+    pool: &mut [u32],
+    n: usize,
+    k: usize,
+    d: usize,
+    x: usize,
+    level: usize,
+    j: usize,
+) -> usize
     requires { ⌜ (Cutting n k d x) × ((length (now pool) ≡ 32 * n) × (j < 2 ^ 32)) ⌝ }
     ensures { λ r. ⌜ (claimed r (now (pool .exit)) ≡ splitIn L n k d x level j (now (pool .entry))) × (r < n) ⌝ }
 {
@@ -190,16 +258,31 @@ fn split_page(pool: &mut [u32], n: usize, k: usize, d: usize, x: usize, level: u
     if level == 0 {
         return part_points(pool, n, k, d, x, &old, m, e, j);
     }
-    let r = open(pool, n, 1, e, j);
+    let r = open_pages(pool, n, 1, e, j);
     if r == 0 {
         return 0;
     }
-    if entry_pass(pool, n, k, d, x, level - 1, &old, m, j, r) { r } else { 0 }
+    if entry_pass(pool, n, k, d, x, level - 1, &old, m, j, r) {
+        r
+    } else {
+        0
+    }
 }
 
 // Deals out the m entries of src, in page order; a crossing one has its child's page, of the given level, split first. Says whether every
 // page wanted was free.
-pub fn entry_pass(pool: &mut [u32], n: usize, k: usize, d: usize, x: usize, level: usize, src: &[u32], m: usize, j: usize, r: usize) -> bool
+pub fn entry_pass(
+    pool: &mut [u32],
+    n: usize,
+    k: usize,
+    d: usize,
+    x: usize,
+    level: usize,
+    src: &[u32],
+    m: usize,
+    j: usize,
+    r: usize,
+) -> bool
     requires { ⌜ (Cutting n k d x) × ((length (now pool) ≡ 32 * n) × ((m < 2 ^ 33) × ((j < 2 ^ 32) × (r < 2 ^ 32)))) ⌝ }
     ensures { λ ok. ⌜ passed ok (now (pool .exit)) ≡ entriesIn L k d x (splitIn L n k d x level) m (now (src .entry)) 4 j r (now (pool .entry)) ⌝ }
 {
@@ -223,13 +306,28 @@ pub fn entry_pass(pool: &mut [u32], n: usize, k: usize, d: usize, x: usize, leve
 }
 
 // The m entries of src, `level` levels above the point pages, go to page j and a claimed page, both of domain e: the claimed page, or 0.
-pub fn part_regions(pool: &mut [u32], n: usize, k: usize, d: usize, x: usize, level: usize, src: &[u32], m: usize, e: usize, j: usize) -> usize
+pub fn part_regions(
+    pool: &mut [u32],
+    n: usize,
+    k: usize,
+    d: usize,
+    x: usize,
+    level: usize,
+    src: &[u32],
+    m: usize,
+    e: usize,
+    j: usize,
+) -> usize
     requires { ⌜ (Cutting n k d x) × ((length (now pool) ≡ 32 * n) × ((m < 2 ^ 33) × ((e < 2 ^ 32) × (j < 2 ^ 32)))) ⌝ }
     ensures { λ r. ⌜ (claimed r (now (pool .exit)) ≡ partRegions L n k d x (splitIn L n k d x level) (now (src .entry)) m e j (now (pool .entry))) × (r < n) ⌝ }
 {
-    let r = open(pool, n, 1, e, j);
+    let r = open_pages(pool, n, 1, e, j);
     if r == 0 {
         return 0;
     }
-    if entry_pass(pool, n, k, d, x, level, src, m, j, r) { r } else { 0 }
+    if entry_pass(pool, n, k, d, x, level, src, m, j, r) {
+        r
+    } else {
+        0
+    }
 }

@@ -39,11 +39,11 @@ add-append c = search needs
 
 array-share-prefix-words : tie.Need-array-share-prefix-words
 array-share-prefix-words c = let a = (c .before .before .before .before .before .before .before .args) in
-        omega (arith, c .before .has .ensures, length-take (2 * a .k + 1) (drop (a .a) (a .src .now)), c .before .before .before .half .kept .0)
+    omega (arith, c .before .has .ensures, length-take (2 * a .k + 1) (drop (a .a) (a .src .now)), c .before .before .before .half .kept .0)
 
 slice-aggregate-append : tie.Need-slice-aggregate-append
 slice-aggregate-append c = let a = (c .before .before .before .before .before .before .before .before .args) in
-        sym (length-take-le _ _ (omega (arith, c .before .before .has .ensures, length-take (2 * a .k + 1) (drop (a .a) (a .src .now)), c .before .before .before .before .half .kept .0)))
+    sym (length-take-le _ _ (omega (arith, c .before .before .has .ensures, length-take (2 * a .k + 1) (drop (a .a) (a .src .now)), c .before .before .before .before .half .kept .0)))
 
 append-requires : tie.Need-append-requires
 append-requires c κs = search needs
@@ -53,8 +53,8 @@ same-length c = search needs
 
 returns : tie.Need-returns
 returns c = let a = (c .before .before .before .before .before .before .before .before .before .before .before .args) in
-        let wd = 2 * a .k + 1 in
-        c .before .before .append .ensures ∙ ap (appendIn 32 wd (a .pool .now) (a .c)) (ap₂ (λ m l. take wd (take m l)) (c .before .before .before .before .before .has .ensures) (c .before .before .before .before .before .before .before .half .ensures) ∙ half-words (a .k) (a .src .now) (a .a) (a .i) (a .x) (a .q) (replicate 9 0) (omega arith))
+    let wd = 2 * a .k + 1 in
+    c .before .before .append .ensures ∙ ap (appendIn 32 wd (a .pool .now) (a .c)) (ap₂ (λ m l. take wd (take m l)) (c .before .before .before .before .before .has .ensures) (c .before .before .before .before .before .before .before .half .ensures) ∙ half-words (a .k) (a .src .now) (a .a) (a .i) (a .x) (a .q) (replicate 9 0) (omega arith))
 
 pub append-half-spec : {M : Type 1} → statement M
 append-half-spec =

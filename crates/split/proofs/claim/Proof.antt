@@ -26,7 +26,7 @@ same-length-2 c = search needs
 
 returns-2 : tie.Need-returns-2
 returns-2 c = let e = c .before .before .before .before .before .lowest-free .ensures .0 in
-        (rw (c .before .before .fresh .ensures, e) (claim-some _ _ _ _ (λ z. c .before .before .before .before .if1 .left (e ∙ z))), omega arith)
+    (rw (c .before .before .fresh .ensures, e) (claim-some _ _ _ _ (λ z. c .before .before .before .before .if1 .left (e ∙ z))), omega arith)
 
 pub claim-spec : {M : Type 1} → statement M
 claim-spec =

@@ -46,16 +46,16 @@ loop-less c = search needs
 
 loop-again : tie.Need-loop-again Inv-loop μ-loop
 loop-again c = let i = c .before .before .before .before .before .before .loop .inv in
-        let u = take (c .before .before .before .before .before .before .before .before .before .before .args .count) (drop (c .before .before .before .before .before .before .before .before .before .before .args .from) (c .before .before .before .before .before .before .before .before .before .before .args .src .now)) in
-        let h = part-word (c .before .before .before .before .before .before .before .before .before .before .args .src .now) (c .before .before .before .before .before .before .before .before .before .before .args .from) (c .before .before .before .before .before .before .before .before .before .before .args .count) (c .before .before .before .before .before .before .loop .i) (omega (arith, i .1)) in
-        (omega arith, i .1, c .before .before .put .kept .0 ∙ i .2, rw (c .before .before .put .ensures, c .before .before .before .get .ensures .0, ← h) (part-next (c .before .before .before .before .before .before .loop .x) (c .before .before .before .before .before .before .before .before .before .before .args .at) (c .before .before .before .before .before .before .loop .i) u _ (i .3) (omega (arith, i .1))))
+    let u = take (c .before .before .before .before .before .before .before .before .before .before .args .count) (drop (c .before .before .before .before .before .before .before .before .before .before .args .from) (c .before .before .before .before .before .before .before .before .before .before .args .src .now)) in
+    let h = part-word (c .before .before .before .before .before .before .before .before .before .before .args .src .now) (c .before .before .before .before .before .before .before .before .before .before .args .from) (c .before .before .before .before .before .before .before .before .before .before .args .count) (c .before .before .before .before .before .before .loop .i) (omega (arith, i .1)) in
+    (omega arith, i .1, c .before .before .put .kept .0 ∙ i .2, rw (c .before .before .put .ensures, c .before .before .before .get .ensures .0, ← h) (part-next (c .before .before .before .before .before .before .loop .x) (c .before .before .before .before .before .before .before .before .before .before .args .at) (c .before .before .before .before .before .before .loop .i) u _ (i .3) (omega (arith, i .1))))
 
 same-length : tie.Need-same-length Inv-loop μ-loop
 same-length c = c .before .loop .inv .2
 
 returns : tie.Need-returns Inv-loop μ-loop
 returns c = let u = take (c .before .before .before .before .before .args .count) (drop (c .before .before .before .before .before .args .from) (c .before .before .before .before .before .args .src .now)) in
-        part-end (c .before .loop .x) (c .before .before .before .before .before .args .at) (c .before .loop .i) u _ (c .before .loop .inv .3) (omega (arith, c .before .loop .inv .1))
+    part-end (c .before .loop .x) (c .before .before .before .before .before .args .at) (c .before .loop .i) u _ (c .before .loop .inv .3) (omega (arith, c .before .loop .inv .1))
 
 pub copy-part-spec : {M : Type 1} → statement M
 copy-part-spec =
