@@ -155,15 +155,19 @@ take-set (suc n) (b ∷ l) (suc i) a = ap (λ m. b ∷ m) (take-set n l i a)
 take-sets : (l u : List ℕ) → length u ≤ length l → take (length u) (sets l 0 u) ≡ u
 take-sets l u h = ap (take (length u)) (sets-eq u l 0 (omega arith)) ∙ take-at u (drop (0 + length u) l) (length u) refl
 
-pub half-words : (k : ℕ) (src : List ℕ) (a i x q : ℕ) (zs : List ℕ) → 2 * k + 1 ≤ length zs
-    → take (2 * k + 1) (drop 0 (take (length (take (2 * k + 1) (drop a src))) (set (set (sets zs 0 (take (2 * k + 1) (drop a src))) i x) (2 * k) q))) ≡ halfIn k src a i x q
-half-words k src a i x q zs h =
-    let wd = 2 * k + 1 in
-    let u = take wd (drop a src) in
-    let n : length u ≤ wd = omega (arith, length-take wd (drop a src)) in
-    let e : take (length u) (set (set (sets zs 0 u) i x) (2 * k) q) ≡ halfIn k src a i x q =
-    take-set (length u) (set (sets zs 0 u) i x) (2 * k) q ∙ ap (λ l. set l (2 * k) q) (take-set (length u) (sets zs 0 u) i x ∙ ap (λ l. set l i x) (take-sets zs u (omega arith))) in
-    ap (take wd) e ∙ take-all wd (halfIn k src a i x q) (omega (arith, length-set (set u i x) (2 * k) q, length-set u i x))
+module _ (k : ℕ) (src : List ℕ) (a i x q : ℕ) (zs : List ℕ) (h : 2 * k + 1 ≤ length zs) where
+  pub half-take : take (length (take (2 * k + 1) (drop a src))) (set (set (sets zs 0 (take (2 * k + 1) (drop a src))) i x) (2 * k) q) ≡ halfIn k src a i x q
+  half-take =
+      let u = take (2 * k + 1) (drop a src) in
+      let n : length u ≤ 2 * k + 1 = omega (arith, length-take (2 * k + 1) (drop a src)) in
+      take-set (length u) (set (sets zs 0 u) i x) (2 * k) q
+      ∙ ap (λ l. set l (2 * k) q) (take-set (length u) (sets zs 0 u) i x ∙ ap (λ l. set l i x) (take-sets zs u (omega arith)))
+
+  pub half-words : take (2 * k + 1) (take (length (take (2 * k + 1) (drop a src))) (set (set (sets zs 0 (take (2 * k + 1) (drop a src))) i x) (2 * k) q)) ≡ halfIn k src a i x q
+  half-words =
+      let u = take (2 * k + 1) (drop a src) in
+      ap (take (2 * k + 1)) half-take
+      ∙ take-all (2 * k + 1) (halfIn k src a i x q) (omega (arith, length-set (set u i x) (2 * k) q, length-set u i x, length-take (2 * k + 1) (drop a src)))
 
 -- the left half keeps its child
 pub half-left : (k d x : ℕ) (src : List ℕ) (a : ℕ) → d < k → halfIn k src a (k + d) x (getD src (a + 2 * k) 0) ≡ set (take (2 * k + 1) (drop a src)) (k + d) x
