@@ -75,69 +75,152 @@ fn copy_overfull(over: &mut [u32], pool: &[u32], wd: usize, j: usize, entry: &[u
 }
 
 // The m records of src are split between page j and a claimed page, along the cut that they offer from domain e on.
-fn break_points(pool: &mut [u32], n: usize, k: usize, src: &[u32], m: usize, e: usize, j: usize) -> Grown
+fn break_points(
+    pool: &mut [u32],
+    n: usize,
+    k: usize,
+    src: &[u32],
+    m: usize,
+    e: usize,
+    j: usize,
+) -> Grown
     requires { ⌜ (Placing n k) × ((Entries k (k + 1) m) × ((e < 2 ^ 32) × (j < 2 ^ 32))) ⌝ }
     ensures { λ r. ⌜ (grownAs r (now (pool .exit)) ≡ breakPoints L n k (regionsPer L k) (pointsPer L k) (choose k k e (keysIn k (k + 1) m (now (src .entry)))) (now (src .entry)) m j (now (pool .entry))) × Sane n k r ⌝ }
 {
     let c = choose(src, k, k + 1, m, e);
     let found = c.found;
-    if found {
-    } else {
-        return Grown { ok: false, page: 0, domain: 0, key: 0 };
+    if found {} else {
+        return Grown {
+            ok: false,
+            page: 0,
+            domain: 0,
+            key: 0,
+        };
     }
     let r = part_points(pool, n, k, c.domain, c.key, src, m, (c.domain + 1) % k, j);
-    Grown { ok: false, page: r, domain: c.domain, key: c.key }
+    Grown {
+        ok: false,
+        page: r,
+        domain: c.domain,
+        key: c.key,
+    }
 }
 
 // The m entries of src likewise; their children stand `level` levels above the point pages.
-fn break_regions(pool: &mut [u32], n: usize, k: usize, level: usize, src: &[u32], m: usize, e: usize, j: usize) -> Grown
+fn break_regions(
+    pool: &mut [u32],
+    n: usize,
+    k: usize,
+    level: usize,
+    src: &[u32],
+    m: usize,
+    e: usize,
+    j: usize,
+) -> Grown
     requires { ⌜ (Placing n k) × ((length (now pool) ≡ 32 * n) × ((Entries k (2 * k + 1) m) × ((e < 2 ^ 32) × (j < 2 ^ 32)))) ⌝ }
     ensures { λ r. ⌜ (grownAs r (now (pool .exit)) ≡ breakRegions L n k (regionsPer L k) (pointsPer L k) level (choose k k e (keysIn k (2 * k + 1) m (now (src .entry)))) (now (src .entry)) m j (now (pool .entry))) × Sane n k r ⌝ }
 {
     let c = choose(src, k, 2 * k + 1, m, e);
     let found = c.found;
-    if found {
-    } else {
-        return Grown { ok: false, page: 0, domain: 0, key: 0 };
+    if found {} else {
+        return Grown {
+            ok: false,
+            page: 0,
+            domain: 0,
+            key: 0,
+        };
     }
-    let r = part_regions(pool, n, k, c.domain, c.key, level, src, m, (c.domain + 1) % k, j);
-    Grown { ok: false, page: r, domain: c.domain, key: c.key }
+    let r = part_regions(
+        pool,
+        n,
+        k,
+        c.domain,
+        c.key,
+        level,
+        src,
+        m,
+        (c.domain + 1) % k,
+        j,
+    );
+    Grown {
+        ok: false,
+        page: r,
+        domain: c.domain,
+        key: c.key,
+    }
 }
 
 // Page j, with m records and of domain e, takes a record behind its last one, and is split if it was full.
-fn settle_points(pool: &mut [u32], n: usize, k: usize, m: usize, e: usize, entry: &[u32], j: usize) -> Grown
+fn settle_points(
+    pool: &mut [u32],
+    n: usize,
+    k: usize,
+    m: usize,
+    e: usize,
+    entry: &[u32],
+    j: usize,
+) -> Grown
     requires { ⌜ (Placing n k) × ((m < 2 ^ 32) × ((e < 2 ^ 32) × ((length (now entry) ≤ k + 1) × (j < 2 ^ 32)))) ⌝ }
     ensures { λ r. ⌜ (grownAs r (now (pool .exit)) ≡ settlePoints n k m e (now (entry .entry)) j (now (pool .entry))) × Sane n k r ⌝ }
 {
     let most = points_per(k);
     if m < most {
         append(pool, k + 1, j, entry, 0);
-        return Grown { ok: true, page: 0, domain: 0, key: 0 };
+        return Grown {
+            ok: true,
+            page: 0,
+            domain: 0,
+            key: 0,
+        };
     }
     if m == most {
         let mut over = [0u32; 48];
         copy_overfull(&mut over, pool, k + 1, j, entry);
         return break_points(pool, n, k, &over[..33 + k], m + 1, e, j);
     }
-    Grown { ok: false, page: 0, domain: 0, key: 0 }
+    Grown {
+        ok: false,
+        page: 0,
+        domain: 0,
+        key: 0,
+    }
 }
 
 // Page j, with m entries and of domain e, likewise.
-fn settle_regions(pool: &mut [u32], n: usize, k: usize, level: usize, m: usize, e: usize, entry: &[u32], j: usize) -> Grown
+fn settle_regions(
+    pool: &mut [u32],
+    n: usize,
+    k: usize,
+    level: usize,
+    m: usize,
+    e: usize,
+    entry: &[u32],
+    j: usize,
+) -> Grown
     requires { ⌜ (Placing n k) × ((length (now pool) ≡ 32 * n) × ((m < 2 ^ 32) × ((e < 2 ^ 32) × ((length (now entry) ≤ 2 * k + 1) × (j < 2 ^ 32))))) ⌝ }
     ensures { λ r. ⌜ (grownAs r (now (pool .exit)) ≡ settleRegions n k level m e (now (entry .entry)) j (now (pool .entry))) × Sane n k r ⌝ }
 {
     let most = regions_per(k);
     if m < most {
         append(pool, 2 * k + 1, j, entry, 0);
-        return Grown { ok: true, page: 0, domain: 0, key: 0 };
+        return Grown {
+            ok: true,
+            page: 0,
+            domain: 0,
+            key: 0,
+        };
     }
     if m == most {
         let mut over = [0u32; 48];
         copy_overfull(&mut over, pool, 2 * k + 1, j, entry);
         return break_regions(pool, n, k, level, &over[..33 + 2 * k], m + 1, e, j);
     }
-    Grown { ok: false, page: 0, domain: 0, key: 0 }
+    Grown {
+        ok: false,
+        page: 0,
+        domain: 0,
+        key: 0,
+    }
 }
 
 // Writes the point's keys, then the location.
@@ -150,7 +233,14 @@ pub fn write_record(to: &mut [u32], k: usize, point: &[u32], location: usize)
 }
 
 // Point page j takes the point.
-fn grow_points(pool: &mut [u32], n: usize, k: usize, j: usize, point: &[u32], location: usize) -> Grown
+fn grow_points(
+    pool: &mut [u32],
+    n: usize,
+    k: usize,
+    j: usize,
+    point: &[u32],
+    location: usize,
+) -> Grown
     requires { ⌜ (Placing n k) × ((length (now point) ≡ k) × ((location < 2 ^ 32) × (j < 2 ^ 32))) ⌝ }
     ensures { λ r. ⌜ (grownAs r (now (pool .exit)) ≡ growIn L n k (regionsPer L k) (pointsPer L k) (now (point .entry)) location 0 j (now (pool .entry))) × Sane n k r ⌝ }
 {
@@ -162,7 +252,17 @@ fn grow_points(pool: &mut [u32], n: usize, k: usize, j: usize, point: &[u32], lo
 }
 
 // Region page j, whose child in the entry at word a broke along x in domain d with r as its right page, takes both halves.
-fn widen(pool: &mut [u32], n: usize, k: usize, level: usize, d: usize, x: usize, r: usize, a: usize, j: usize) -> Grown
+fn widen(
+    pool: &mut [u32],
+    n: usize,
+    k: usize,
+    level: usize,
+    d: usize,
+    x: usize,
+    r: usize,
+    a: usize,
+    j: usize,
+) -> Grown
     requires { ⌜ (Placing n k) × ((length (now pool) ≡ 32 * n) × ((d < k) × ((x < 2 ^ 32) × ((r < 2 ^ 32) × ((a < 2 ^ 40) × (j < 2 ^ 32)))))) ⌝ }
     ensures { λ g. ⌜ (grownAs g (now (pool .exit)) ≡ widenIn L n k (regionsPer L k) (pointsPer L k) level d x r a j (now (pool .entry))) × Sane n k g ⌝ }
 {
@@ -176,7 +276,15 @@ fn widen(pool: &mut [u32], n: usize, k: usize, level: usize, d: usize, x: usize,
 }
 
 // Page j, `level` levels above the point pages, takes the point with its location.
-pub fn grow(pool: &mut [u32], n: usize, k: usize, level: usize, j: usize, point: &[u32], location: usize) -> Grown
+pub fn grow(
+    pool: &mut [u32],
+    n: usize,
+    k: usize,
+    level: usize,
+    j: usize,
+    point: &[u32],
+    location: usize,
+) -> Grown
     requires { ⌜ (Placing n k) × ((length (now pool) ≡ 32 * n) × ((length (now point) ≡ k) × ((location < 2 ^ 32) × (j < 2 ^ 32)))) ⌝ }
     ensures { λ r. ⌜ (grownAs r (now (pool .exit)) ≡ growIn L n k (regionsPer L k) (pointsPer L k) (now (point .entry)) location level j (now (pool .entry))) × Sane n k r ⌝ }
 {
@@ -185,7 +293,12 @@ pub fn grow(pool: &mut [u32], n: usize, k: usize, level: usize, j: usize, point:
     }
     let a = seek(pool, k, point, j);
     if a == 0 {
-        return Grown { ok: false, page: 0, domain: 0, key: 0 };
+        return Grown {
+            ok: false,
+            page: 0,
+            domain: 0,
+            key: 0,
+        };
     }
     let g = grow(pool, n, k, level - 1, get(pool, a + 2 * k), point, location);
     if g.page == 0 {

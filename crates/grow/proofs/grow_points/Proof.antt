@@ -45,8 +45,8 @@ same-length c = search needs
 
 returns : tie.Need-returns
 returns c = let a = (c .before .before .before .before .before .before .before .before .before .before .before .before .before .before .args) in
-        let u = ap (take (a .k + 1)) (c .before .before .before .before .before .before .write-record .ensures) ∙ record-words (a .k) (a .point .now) (a .location) (omega arith) (omega arith) in
-        (c .before .before .settle-points .ensures .0 ∙ (rw (c .before .before .before .before .before .before .before .before .before .before .word .ensures .0, c .before .before .before .before .before .before .before .before .word2 .ensures .0) (ap (λ l. settlePoints (a .n) (a .k) (word 32 (a .pool .now) (a .j) 1) (word 32 (a .pool .now) (a .j) 2) l (a .j) (a .pool .now)) u)) ∙ grow-points (a .n) (a .k) (a .point .now) (a .location) (a .j) (a .pool .now), c .before .before .settle-points .ensures .1)
+    let u = ap (take (a .k + 1)) (c .before .before .before .before .before .before .write-record .ensures) ∙ record-words (a .k) (a .point .now) (a .location) (omega arith) (omega arith) in
+    (c .before .before .settle-points .ensures .0 ∙ (rw (c .before .before .before .before .before .before .before .before .before .before .word .ensures .0, c .before .before .before .before .before .before .before .before .word2 .ensures .0) (ap (λ l. settlePoints (a .n) (a .k) (word 32 (a .pool .now) (a .j) 1) (word 32 (a .pool .now) (a .j) 2) l (a .j) (a .pool .now)) u)) ∙ grow-points (a .n) (a .k) (a .point .now) (a .location) (a .j) (a .pool .now), c .before .before .settle-points .ensures .1)
 
 pub grow-points-spec : {M : Type 1} → statement M
 grow-points-spec =

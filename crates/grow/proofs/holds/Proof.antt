@@ -21,7 +21,7 @@ returns c = search needs
 
 returns-2 : tie.Need-returns-2
 returns-2 c = let a = (c .before .before .before .args) in
-        holds-none (a .k) (a .a) (a .pool .now) (a .point .now) (omega arith) (omega arith) (omega arith)
+    holds-none (a .k) (a .a) (a .pool .now) (a .point .now) (omega arith) (omega arith) (omega arith)
 
 pub holds-spec : {M : Type 1} → statement M
 holds-spec = tie.close (tie.spec mul-if1 add-if1 point-in-requires returns returns-2)

@@ -37,8 +37,8 @@ same-length c = search needs
 
 returns : tie.Need-returns
 returns c = let a = (c .before .before .before .before .before .before .before .before .args) in
-        let p = c .before .before .before .before .before .regions-per .ensures in
-        (rw (c .before .before .append .ensures) (regions-room (a .n) (a .k) (a .level) (a .m) (a .e) (a .entry .now) (a .j) (a .pool .now) (omega (arith, p, c .before .before .before .before .if1 .taken)) (omega arith)), record { page = omega arith; domain = omega arith; key = omega arith })
+    let p = c .before .before .before .before .before .regions-per .ensures in
+    (rw (c .before .before .append .ensures) (regions-room (a .n) (a .k) (a .level) (a .m) (a .e) (a .entry .now) (a .j) (a .pool .now) (omega (arith, p, c .before .before .before .before .if1 .taken)) (omega arith)), record { page = omega arith; domain = omega arith; key = omega arith })
 
 slice-aggregate-copy-overfull : tie.Need-slice-aggregate-copy-overfull
 slice-aggregate-copy-overfull c = search needs
@@ -75,15 +75,15 @@ same-length-2 c = search needs
 
 returns-2 : tie.Need-returns-2
 returns-2 c = let a = (c .before .before .before .before .before .before .before .before .before .before .before .before .before .before .args) in
-        let o = c .before .before .before .before .before .before .copy-overfull .ensures in
-        let w = over-words (2 * a .k + 1) (a .pool .now) (a .j) (a .entry .now) (33 + 2 * a .k) (omega arith) (omega arith) in
-        let s = ap (λ l. breakRegions 32 (a .n) (a .k) (regionsPer 32 (a .k)) (pointsPer 32 (a .k)) (a .level) (choose (a .k) (a .k) (a .e) (keysIn (a .k) (2 * a .k + 1) (a .m + 1) l)) l (a .m + 1) (a .j) (a .pool .now)) (ap (take (33 + 2 * a .k)) o ∙ w) in
-        (c .before .before .break-regions .ensures .0 ∙ s ∙ regions-full (a .n) (a .k) (a .level) (a .m) (a .e) (a .entry .now) (a .j) (a .pool .now) (c .before .before .before .before .before .before .before .before .before .if2 .taken ∙ c .before .before .before .before .before .before .before .before .before .before .before .regions-per .ensures), c .before .before .break-regions .ensures .1)
+    let o = c .before .before .before .before .before .before .copy-overfull .ensures in
+    let w = over-words (2 * a .k + 1) (a .pool .now) (a .j) (a .entry .now) (33 + 2 * a .k) (omega arith) (omega arith) in
+    let s = ap (λ l. breakRegions 32 (a .n) (a .k) (regionsPer 32 (a .k)) (pointsPer 32 (a .k)) (a .level) (choose (a .k) (a .k) (a .e) (keysIn (a .k) (2 * a .k + 1) (a .m + 1) l)) l (a .m + 1) (a .j) (a .pool .now)) (ap (take (33 + 2 * a .k)) o ∙ w) in
+    (c .before .before .break-regions .ensures .0 ∙ s ∙ regions-full (a .n) (a .k) (a .level) (a .m) (a .e) (a .entry .now) (a .j) (a .pool .now) (c .before .before .before .before .before .before .before .before .before .if2 .taken ∙ c .before .before .before .before .before .before .before .before .before .before .before .regions-per .ensures), c .before .before .break-regions .ensures .1)
 
 returns-3 : tie.Need-returns-3
 returns-3 c = let a = (c .before .before .before .before .before .args) in
-        let p = c .before .before .regions-per .ensures in
-        (regions-over (a .n) (a .k) (a .level) (a .m) (a .e) (a .entry .now) (a .j) (a .pool .now) (omega (arith, p, c .before .if1 .left)) (λ z. c .if2 .left (z ∙ sym p)), record { page = omega arith; domain = omega arith; key = omega arith })
+    let p = c .before .before .regions-per .ensures in
+    (regions-over (a .n) (a .k) (a .level) (a .m) (a .e) (a .entry .now) (a .j) (a .pool .now) (omega (arith, p, c .before .if1 .left)) (λ z. c .if2 .left (z ∙ sym p)), record { page = omega arith; domain = omega arith; key = omega arith })
 
 pub settle-regions-spec : {M : Type 1} → statement M
 settle-regions-spec =
