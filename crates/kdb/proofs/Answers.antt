@@ -1,26 +1,27 @@
 -- What list and find answer on a sound pool whose records are, by counts, the records rs.
-use mathlib.Core.Bool.{Bool, true, false, _&&_, not, cond}
+use mathlib.Core.Bool.{Bool, true, false, _&&_, cond}
 use mathlib.Core.List.{List, [], _∷_, _++_, map}
 use mathlib.Core.Option.{none, some}
 use mathlib.Core.Path.{_≡_, refl, sym, ap, ap₂, _∙_, subst}
-use Prim.Native.Nat.{ℕ, zero, suc, _+_, _*_, _<_, _≤_}
+use Prim.Native.Nat.{ℕ, suc, _+_, _*_, _≤_}
 use native.Mathlib.Omega.{arith}
 use lib.Dec.{T, eqb, eqb→eq, eqb-refl, T-not}
 use lib.ListN.{length, take, drop, getD, length-map}
 use Rattle.kdb.specs.Lists.{bit, only, tally, same}
 use Rattle.kdb.specs.Box.{Key, whole, within, inWindow}
-use Rattle.kdb.specs.Tree.{Rec, State, Tree, records, recordsOf}
+use Rattle.kdb.specs.Tree.{Rec, State, records, recordsOf}
 use Rattle.kdb.specs.Pool.{domains, goodLength, goodHeader, Sound}
 use Rattle.kdb.specs.Print.{stateOf}
-use Rattle.kdb.specs.Walk.{Spot, Tour, listWalk, End, rootless, bad, absent, here, Search, ends, findWalk}
-use Rattle.kdb.specs.Calls.{L, Call, find, list, lent, Buffers, Outcome, finite, windowOf, ordered, begins, finding, listing, filled, core, outcome}
-use Rattle.kdb.specs.Demands.{SameRecords, keyed, inside, goodWindow, goodPoint, Lists, Finds}
-use Rattle.kdb.proofs.Lists.{and-l, and-r, and-i, bool, bit-most, length-only, same-refl, In}
+use Rattle.kdb.specs.Walk.{Spot, Tour, listWalk, End, rootless, bad, absent, here, Search, findWalk}
+use Rattle.kdb.specs.Calls.{L, find, list, lent, Buffers, finite, windowOf, ordered, begins, finding, listing, filled, outcome}
+use Rattle.kdb.specs.Demands.{SameRecords, keyed, inside, goodWindow, goodPoint, ListsExactly, FindsExactly}
+use Rattle.kdb.proofs.Lists.{In, and-l, and-r, and-i, bool, bit-most, length-only, same-refl}
 use Rattle.kdb.proofs.Stands.{Stands}
 use Rattle.kdb.proofs.Views.{finite-whole}
 use Rattle.kdb.proofs.Pool.{Sound-stands}
 use Rattle.kdb.proofs.Reading.{Answers, list-good, list-finds, find-rootless, find-answers}
 use Rattle.kdb.proofs.Calls.{goes-on}
+use Rattle.kdb.proofs.Windows.{fill-enough, fill-few}
 
 -- counting what a test keeps
 only-tally : (f g : Rec → Bool) (rs : List Rec) → tally g (only f rs) ≡ tally (λ r. f r && g r) rs
@@ -43,7 +44,8 @@ map-loc : (ss : List Spot) → map (λ r. r .loc) (map (λ x. x .rec) ss) ≡ ma
 map-loc [] = refl
 map-loc (x ∷ ss) = ap (λ l. x .rec .loc ∷ l) (map-loc ss)
 
-module _ (w : List ℕ) (sound : Sound L w) (rs : List Rec) (same : SameRecords (recordsOf (stateOf L w)) rs) where
+-- the tests of the arguments are all that a sound pool leaves
+module _ (w : List ℕ) (sound : Sound L w) where
   pub list-begins : (v slots : List ℕ) → T (goodWindow (domains w) v) → T (begins w (list v slots))
   list-begins v slots h =
       let long = eqb (length v) (2 * domains w) in
@@ -56,27 +58,29 @@ module _ (w : List ℕ) (sound : Sound L w) (rs : List Rec) (same : SameRecords 
       let long = eqb (length p) (domains w) in
       and-i (goodLength L w) _ (sound .words) (and-i (goodHeader L w) _ (sound .header) (and-i long _ (and-l long _ h) (and-i (finite p) true (and-r long _ h) tt)))
 
-  pub list-answers : (v slots : List ℕ) → T (goodWindow (domains w) v) → Lists w rs v slots
+module _ (w : List ℕ) (sound : Sound L w) (rs : List Rec) (same : SameRecords (recordsOf (stateOf L w)) rs) where
+  pub list-answers : (v slots : List ℕ) → T (goodWindow (domains w) v) → ListsExactly w rs v slots
   list-answers v slots h =
       let window = windowOf (domains w) v in
       let st = Sound-stands L w sound (omega arith) in
       let t = listWalk L w window in
-      let e = goes-on w (list v slots) (list-begins v slots h) in
+      let e = goes-on w (list v slots) (list-begins w sound v slots h) in
       let g = listing-good t w slots (list-good L w window (stateOf L w) st) in
       let found : List Rec = map (λ x. x .rec) (t .found) in
       let is : found ≡ only (λ r. inWindow window (r .key)) (recordsOf (stateOf L w)) = list-finds L w window (stateOf L w) st in
       let exact : SameRecords found (inside (domains w) v rs) =
       subst (λ l. SameRecords l (inside (domains w) v rs)) (sym is) (same-only (λ r. inWindow window (r .key)) (recordsOf (stateOf L w)) rs same) in
       let long : length found ≡ length (t .found) = length-map (t .found) (λ x. x .rec) in
+      let answer : outcome w (list v slots) .after .answer ≡ take (length slots) (map (λ r. r .loc) found) ++ drop (length found) slots =
+      ap (λ o. o .after .answer) e ∙ (g .2 ∙ ap₂ (λ l n. take (length slots) l ++ drop n slots) (sym (map-loc (t .found))) (sym long)) in
       record {
         done = ap (λ o. o .number) e ∙ g .0;
-        found = found;
         exact = exact;
         total =
             ap (λ o. getD (o .values) 0 0) e ∙ (g .1 ∙ (sym long ∙ (ap length is
             ∙ (length-only (λ r. inWindow window (r .key)) (recordsOf (stateOf L w)) ∙ (same (λ r. inWindow window (r .key)) ∙ sym (length-only (λ r. inWindow window (r .key)) rs))))));
-        answer =
-            ap (λ o. o .after .answer) e ∙ (g .2 ∙ ap₂ (λ l n. take (length slots) l ++ drop n slots) (sym (map-loc (t .found))) (sym long));
+        enough = λ h. answer ∙ fill-enough (λ r. r .loc) slots found h;
+        few = λ h. answer ∙ fill-few (λ r. r .loc) slots found h;
       }
 
 -- of the records with a key that stands once at the most, two that pass different tests are none
@@ -94,6 +98,16 @@ both-keyed p l m d (r ∷ rs) = omega (arith, both-keyed p l m d rs, go (same p 
     go true = apart (eqb l (r .loc)) (eqb m (r .loc)) (λ a b. d (eqb→eq l (r .loc) a ∙ sym (eqb→eq m (r .loc) b)))
     go false = omega arith
 
+-- the location of the one record with a key
+pub one-located : (p : Key) (l : ℕ) (r : Rec) (rs : List Rec) → In r rs → r .key ≡ p → tally (keyed p) rs ≤ 1 → 1 ≤ tally (λ q. same p (q .key) && eqb l (q .loc)) rs → r .loc ≡ l
+one-located p l r rs i e once h =
+    bool (eqb (r .loc) l) (λ y. eqb→eq (r .loc) l y)
+    (λ n. absurd (omega (
+      arith,
+      both-keyed p (r .loc) l (λ z. T-not (eqb (r .loc) l) n (rw z (eqb-refl l))) rs,
+      i .counted (λ q. same p (q .key) && eqb (r .loc) (q .loc)) (and-i (same p (r .key)) _ (rw e (same-refl p)) (eqb-refl (r .loc))),
+    )))
+
 -- find's outcome by how its walk ended
 finding-here : (g : Search) (b : Buffers) (x : Spot) → g .end ≡ here x → (finding g b .number ≡ 0) × (getD (finding g b .values) 0 0 ≡ x .rec .loc)
 finding-here g b x e = rw e (refl, refl)
@@ -105,10 +119,10 @@ finding-rootless : (g : Search) (b : Buffers) → g .end ≡ rootless → findin
 finding-rootless g b e = rw e
 
 module _ (w : List ℕ) (sound : Sound L w) (rs : List Rec) (same-recs : SameRecords (recordsOf (stateOf L w)) rs) (once : (p : Key) → tally (keyed p) rs ≤ 1) where
-  find-by : (p : List ℕ) (g : Search) → outcome w (find p) ≡ finding g (lent w (find p)) → Answers rs p (g .end) → Finds w rs p
+  find-by : (p : List ℕ) (g : Search) → outcome w (find p) ≡ finding g (lent w (find p)) → Answers rs p (g .end) → FindsExactly w rs p
   find-by p g e a = go (g .end) refl a
     where
-      go : (n : End) → g .end ≡ n → Answers rs p n → Finds w rs p
+      go : (n : End) → g .end ≡ n → Answers rs p n → FindsExactly w rs p
       go rootless q a = absurd a
       go bad q a = absurd a
       go (absent j) q a =
@@ -119,19 +133,9 @@ module _ (w : List ℕ) (sound : Sound L w) (rs : List Rec) (same-recs : SameRec
       go (here x) q a =
           let t = finding-here g (lent w (find p)) x q in
           record {
-            here = λ l h. (ap (λ o. o .number) e ∙ t .0, ap (λ o. getD (o .values) 0 0) e ∙ (t .1 ∙ located l h));
+            here = λ l h. (ap (λ o. o .number) e ∙ t .0, ap (λ o. getD (o .values) 0 0) e ∙ (t .1 ∙ one-located p l (x .rec) rs (a .1) (a .0) (once p) h));
             absent = λ z. absurd (omega (arith, a .1 .counted (keyed p) (rw (a .0) (same-refl p))));
           }
-        where
-          located : (l : ℕ) → 1 ≤ tally (λ r. same p (r .key) && eqb l (r .loc)) rs → x .rec .loc ≡ l
-          located l h =
-              bool (eqb (x .rec .loc) l) (λ y. eqb→eq (x .rec .loc) l y)
-              (λ n. absurd (omega (
-                arith,
-                once p,
-                both-keyed p (x .rec .loc) l (λ z. T-not (eqb (x .rec .loc) l) n (rw z (eqb-refl l))) rs,
-                a .1 .counted (λ r. same p (r .key) && eqb (x .rec .loc) (r .loc)) (and-i (same p (x .rec .key)) _ (rw (a .0) (same-refl p)) (eqb-refl (x .rec .loc))),
-              )))
 
   answers-same : (a : List Rec) (p : Key) (n : End) → SameRecords a rs → Answers a p n → Answers rs p n
   answers-same a p rootless e h = h
@@ -139,15 +143,15 @@ module _ (w : List ℕ) (sound : Sound L w) (rs : List Rec) (same-recs : SameRec
   answers-same a p (absent j) e h = sym (e (keyed p)) ∙ h
   answers-same a p (here x) e h = (h .0, record { counted = λ g t. omega (arith, h .1 .counted g t, e g) })
 
-  pub find-finds : (p : List ℕ) → T (goodPoint (domains w) p) → Finds w rs p
+  pub find-finds : (p : List ℕ) → T (goodPoint (domains w) p) → FindsExactly w rs p
   find-finds p h =
       let k = domains w in
       let long = eqb (length p) k in
       let i : T (within (whole k) p) = finite-whole k p (eqb→eq (length p) k (and-l long _ h)) (and-r long _ h) in
-      go (stateOf L w) (Sound-stands L w sound (omega arith)) same-recs i (goes-on w (find p) (find-begins w sound rs same-recs p h))
+      go (stateOf L w) (Sound-stands L w sound (omega arith)) same-recs i (goes-on w (find p) (find-begins w sound p h))
     where
       go : (s : State) → Stands L w s → SameRecords (recordsOf s) rs → T (within (whole (domains w)) p)
-          → outcome w (find p) ≡ finding (findWalk L w p) (lent w (find p)) → Finds w rs p
+          → outcome w (find p) ≡ finding (findWalk L w p) (lent w (find p)) → FindsExactly w rs p
       go none st e i o =
           record {
             here = λ l h. absurd (omega (arith, e (λ r. same p (r .key) && eqb l (r .loc))));

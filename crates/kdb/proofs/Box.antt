@@ -1,11 +1,12 @@
 -- Laws of regions and windows. `meets-iff`: a region meets a window exactly if some key lies in both.
-use mathlib.Core.Bool.{Bool, true, false, _&&_}
-use mathlib.Core.List.{List, [], _∷_}
+use mathlib.Core.Bool.{_&&_}
+use mathlib.Core.List.{[], _∷_}
 use mathlib.Core.Logic.{_↔_}
-use mathlib.Core.Path.{_≡_, refl}
-use Prim.Native.Nat.{ℕ, zero, suc, _+_, _<_, _≤_, max}
+use mathlib.Core.Path.{_≡_, refl, ap}
+use Prim.Native.Nat.{ℕ, _<_, _≤_, max, suc}
 use native.Mathlib.Omega.{arith}
 use lib.Dec.{T, leb, ltb, leb→le, le→leb, ltb→lt, lt→ltb}
+use lib.ListN.{length}
 use Rattle.kdb.specs.Box.{Side, Box, Key, within, inWindow, meets}
 use Rattle.kdb.proofs.Lists.{and-l, and-r, and-i}
 
@@ -25,6 +26,13 @@ pub window-e : (s : Side) (x : ℕ) (b : Box) (p : Key) → T (inWindow (s ∷ b
 window-e s x b p t =
     let c = and-l (leb (s .lo) x && leb x (s .hi)) _ t in
     (leb→le (s .lo) x (and-l (leb (s .lo) x) _ c), leb→le x (s .hi) (and-r (leb (s .lo) x) _ c), and-r (leb (s .lo) x && leb x (s .hi)) _ t)
+
+-- a region's keys are as long as the region
+pub within-length : (b : Box) (p : Key) → T (within b p) → length p ≡ length b
+within-length [] [] t = refl
+within-length [] (x ∷ p) t = absurd t
+within-length (s ∷ b) [] t = absurd t
+within-length (s ∷ b) (x ∷ p) t = ap suc (within-length b p (within-e s x b p t .2))
 
 -- a key that lies in both shows that the region meets the window
 pub meets-of : (b w : Box) (p : Key) → T (within b p) → T (inWindow w p) → T (meets b w)

@@ -1,18 +1,15 @@
 -- Laws of the calls: a refused call leaves the pool as it was; what holds of a call that was done; the calls that only read.
-use mathlib.Core.Bool.{Bool, true, false, _&&_, not, cond}
+use mathlib.Core.Bool.{Bool, true, false, _&&_}
 use mathlib.Core.List.{List, [], _∷_, _++_}
 use mathlib.Core.Option.{Option, none, some}
-use mathlib.Core.Path.{_≡_, refl, sym, ap, _∙_}
-use Prim.Native.Nat.{ℕ, zero, suc, _+_, _-_, _*_, _<_, _≤_}
+use mathlib.Core.Path.{_≡_, refl, sym, _∙_}
+use Prim.Native.Nat.{ℕ}
 use native.Mathlib.Omega.{arith}
 use lib.Dec.{T, ltb, ltb→lt}
-use lib.ListN.{length, replicate}
-use Rattle.kdb.specs.Tree.{Rec, State}
-use Rattle.kdb.specs.Steps.{removed}
-use Rattle.kdb.specs.Pool.{domains, pagesIn, goodLength, goodHeader}
-use Rattle.kdb.specs.Print.{printed, stateOf, sound}
-use Rattle.kdb.specs.Walk.{Spot, Tour, End, rootless, bad, absent, here, Search, ends, findWalk, listWalk}
-use Rattle.kdb.specs.Calls.{L, Call, format, check, place, remove, find, list, Buffers, lent, Outcome, gives, refuses, Test, unless, judge, tests, core, begins, goodDomains, finite, windowOf, ordered, formatted, placing, stepped, present, removing, finding, listing, outcome, Promise}
+use Rattle.kdb.specs.Tree.{State}
+use Rattle.kdb.specs.Pool.{domains}
+use Rattle.kdb.specs.Walk.{Tour, End, rootless, bad, absent, here, Search, ends, findWalk, listWalk}
+use Rattle.kdb.specs.Calls.{L, Call, format, check, place, remove, find, list, Buffers, lent, Outcome, refuses, Test, unless, judge, tests, core, begins, windowOf, placing, stepped, removing, finding, listing, outcome, Promise}
 use Rattle.kdb.specs.Lists.{every}
 use Rattle.kdb.proofs.Lists.{and-l, and-r, is-true}
 
@@ -42,6 +39,11 @@ judge-done (t ∷ ts) b o s e = go (t .holds) (judge-done ts b o (and-r (ltb 0 (
 pub judge-on : (ts : List Test) (b : Buffers) (o : Outcome) → T (every (λ t. t .holds) ts) → judge ts b o ≡ o
 judge-on [] b o h = refl
 judge-on (t ∷ ts) b o h = rw (is-true (t .holds) (and-l (t .holds) _ h)) (judge-on ts b o (and-r (t .holds) _ h))
+
+-- tests that hold stand in no later one's way
+pub judge-past : (ts us : List Test) (b : Buffers) (o : Outcome) → T (every (λ t. t .holds) ts) → judge (ts ++ us) b o ≡ judge us b o
+judge-past [] us b o h = refl
+judge-past (t ∷ ts) us b o h = rw (is-true (t .holds) (and-l (t .holds) _ h)) (judge-past ts us b o (and-r (t .holds) _ h))
 
 pub tests-numbered : (w : List ℕ) (c : Call) → T (numbered (tests w c))
 tests-numbered w (format k) = tt

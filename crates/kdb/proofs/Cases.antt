@@ -9,7 +9,7 @@ use lib.ListN.{replicate}
 use Rattle.kdb.specs.Lists.{every, gather, pad, same}
 use Rattle.kdb.specs.Pool.{goodLength, goodHeader}
 use Rattle.kdb.specs.Print.{sound}
-use Rattle.kdb.specs.Calls.{Call, format, check, place, remove, find, list, Buffers, outcome, lent}
+use Rattle.kdb.specs.Calls.{Call, format, check, place, find, list, Buffers, outcome, lent}
 use Rattle.kdb.specs.History.{answers}
 
 pub record Row : Type 0 where

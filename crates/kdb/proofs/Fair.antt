@@ -1,6 +1,6 @@
 -- A fair way down: some entry holds the point at each region page, and each page that the placing leaves overfull offers a cut that leaves
 -- both sides within the limits. `Grow` shows it of every well-formed state.
-use mathlib.Core.Bool.{Bool, true, false, not}
+use mathlib.Core.Bool.{true, false, not}
 use mathlib.Core.List.{List, [], _∷_, _++_}
 use Prim.Native.Nat.{ℕ, _≤_, _<_}
 use lib.Dec.{T}

@@ -2,14 +2,14 @@
 use mathlib.Core.List.{List, [], _∷_, _++_}
 use mathlib.Core.Option.{none}
 use mathlib.Core.Path.{_≡_, refl, sym, ap, ap₂, _∙_}
-use Prim.Native.Nat.{ℕ, zero, suc, _+_, _-_, _*_, _<_, _≤_}
+use Prim.Native.Nat.{ℕ, zero, suc, _+_, _-_, _*_}
 use native.Mathlib.Omega.{arith}
 use native.Mathlib.Nat.{mul-suc, mul-zero}
 use lib.Dec.{T, leb, leb→le}
 use lib.ListN.{length, replicate, replicate-append-replicate}
 use Rattle.kdb.specs.Lists.{gather, upFrom, pad}
 use Rattle.kdb.specs.Pages.{blank, printPage}
-use Rattle.kdb.specs.Shape.{WellFormed, Numbered}
+use Rattle.kdb.specs.Shape.{WellFormed}
 use Rattle.kdb.specs.Pool.{pagesIn, goodLength}
 use Rattle.kdb.specs.Print.{printed}
 use Rattle.kdb.specs.Calls.{L, goodDomains, formatted}

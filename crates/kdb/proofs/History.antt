@@ -1,19 +1,18 @@
 -- Sequences of calls: the records that a call which was done leaves, by counts; and that a sequence in which each call keeps its promise is
 -- the run of the definitions.
-use mathlib.Core.Bool.{Bool, true, false, _&&_, not}
-use mathlib.Core.List.{List, [], _∷_, _++_, map}
-use mathlib.Core.Path.{_≡_, refl, sym, ap, ap₂, _∙_}
-use Prim.Native.Nat.{ℕ, zero, suc, _+_, _<_, _≤_}
+use mathlib.Core.Bool.{Bool, true, false, _&&_}
+use mathlib.Core.List.{List, [], _∷_, map}
+use mathlib.Core.Path.{_≡_, refl, ap, ap₂, _∙_}
+use Prim.Native.Nat.{ℕ, zero, suc, _+_, _≤_}
 use native.Mathlib.Omega.{arith}
-use lib.Dec.{T}
 use Rattle.kdb.specs.Lists.{bit, tally, same}
 use Rattle.kdb.specs.Box.{Key}
 use Rattle.kdb.specs.Tree.{Rec}
 use Rattle.kdb.specs.Steps.{without}
-use Rattle.kdb.specs.Calls.{Call, format, check, place, remove, find, list, Outcome, outcome, Promise}
-use Rattle.kdb.specs.History.{Answer, answerOf, run, answers, change, changed, live, Keeps, over, next}
+use Rattle.kdb.specs.Calls.{Call, format, check, place, remove, find, list, Outcome, outcome}
+use Rattle.kdb.specs.History.{answerOf, run, answers, changed, Keeps, over, next}
 use Rattle.kdb.specs.Demands.{SameRecords, keyed}
-use Rattle.kdb.proofs.Lists.{and-l, cases, tally-append, tally-imp}
+use Rattle.kdb.proofs.Lists.{and-l, tally-append, tally-imp}
 
 -- without the record of a key that stands once at the most: the counts lose what that record counts
 pub without-tally : (p : Key) (g : Rec → Bool) (rs : List Rec) → tally (keyed p) rs ≤ 1

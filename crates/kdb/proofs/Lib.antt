@@ -4,6 +4,7 @@ pub mod Tiling
 pub mod Cut
 pub mod Split
 pub mod Fair
+pub mod Grow
 pub mod Stands
 pub mod Calls
 pub mod Pages
@@ -13,10 +14,12 @@ pub mod Walk
 pub mod Local
 pub mod History
 pub mod Answers
+pub mod Demands
 pub mod Pool
 pub mod Format
 pub mod Reading
 pub mod Own
+pub mod Windows
 pub mod Cases
 pub mod Sessions
 pub mod Words

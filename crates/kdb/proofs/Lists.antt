@@ -2,13 +2,13 @@
 use mathlib.Core.Bool.{Bool, true, false, _&&_, _||_, not, cond}
 use mathlib.Core.List.{List, [], _∷_, _++_, map, append-assoc, append-nil}
 use mathlib.Core.Path.{_≡_, refl, sym, ap, ap₂, _∙_, subst}
-use Prim.Native.Nat.{ℕ, zero, suc, _+_, _-_, _*_, _<_, _≤_, min}
+use Prim.Native.Nat.{ℕ, zero, suc, _+_, _-_, _*_, _<_, _≤_}
 use native.Mathlib.Omega.{arith}
-use native.Mathlib.Nat.{zero-mul, suc-mul, zero-add, suc-add}
-use lib.Dec.{T, T-not, leb, ltb, eqb, leb→le, le→leb, ltb→lt, lt→ltb, nleb→lt, nltb→le, eqb→eq, eqb-refl}
-use lib.ListN.{length, take, drop, getD, set, replicate, length-append}
-use lib.Seq.{sets, take-append-add, take-take}
-use borrow.Author.Tests.{eq-eqb, ne-eqb}
+use lib.Dec.{T, leb, eqb, leb→le, nleb→lt, eqb→eq, eqb-refl, T-not}
+use native.Mathlib.Nat.{zero-mul, suc-mul, zero-add, suc-add, add-zero, add-mul}
+use lib.ListN.{length, take, drop, getD, length-append, take-append-drop, set, replicate, drop-of-length-le}
+use lib.Seq.{take-append-add, take-take, sets, sets-eq, set-out, take-all, length-take-le}
+use borrow.Author.Tests.{eq-eqb, ne-eqb, leb-true, leb-false}
 use Rattle.kdb.specs.Lists.{bit, only, tally, every, any, Each, gather, sum, many, upFrom, pad, same}
 
 -- tests
@@ -367,6 +367,22 @@ pub tally-map {ℓ κ} : {A : Type ℓ} {B : Type κ} (g : B → Bool) (f : A �
 tally-map g f [] = refl
 tally-map g f (a ∷ l) = ap (λ n. bit (g (f a)) + n) (tally-map g f l)
 
+-- a number of the n from a on, and what is counted in lists joined
+pub many-up : (n a i : ℕ) → a ≤ i → i < a + n → 1 ≤ many i (upFrom n a)
+many-up zero a i h g = absurd (omega arith)
+many-up (suc n) a i h g =
+    bool (eqb i a) (λ t. omega (arith, to-bit (eqb i a) t))
+    (λ t. let ne : i ≡ a → ⊥ = λ e. T-not (eqb i a) t (of-true (eqb i a) (eq-eqb i a e)) in
+    omega (arith, many-up n (suc a) i (omega arith) (omega arith)))
+
+pub tally-gather {ℓ} : {A : Type ℓ} (h : A → Bool) (g : ℕ → List A) (l : List ℕ) (i : ℕ) → 1 ≤ many i l → 1 ≤ tally h (g i) → 1 ≤ tally h (gather g l)
+tally-gather h g [] i k m = absurd (omega arith)
+tally-gather h g (a ∷ l) i k m =
+    let e = tally-append h (g a) (gather g l) in
+    bool (eqb i a)
+    (λ t. let q : tally h (g i) ≡ tally h (g a) = ap (λ j. tally h (g j)) (eqb→eq i a t) in omega arith)
+    (λ t. omega (arith, tally-gather h g l i (omega (arith, no-bit (eqb i a) (T-not (eqb i a) t))) m))
+
 -- parts of lists, and the numbers on them
 module _ {ℓ} {A : Type ℓ} where
   pub every-take : (f : A → Bool) (n : ℕ) (l : List A) → T (every f l) → T (every f (take n l))
@@ -379,10 +395,6 @@ pub every-many : (f : ℕ → Bool) (l : List ℕ) → T (every f l) → (c : �
 every-many f [] t c h = absurd (omega arith)
 every-many f (a ∷ l) t c h =
     bool (eqb c a) (λ e. rw (eqb→eq c a e) (and-l (f a) _ t)) (λ e. every-many f l (and-r (f a) _ t) c (omega (arith, ap bit (is-false (eqb c a) e))))
-
-pub pos : (m : ℕ) → T (not (eqb m 0)) → 1 ≤ m
-pos zero h = absurd h
-pos (suc m) h = omega arith
 
 -- beginnings of lists
 module _ {ℓ} {A : Type ℓ} where
@@ -435,22 +447,6 @@ module _ {ℓ} {A : Type ℓ} where
   pub every-imp : (f g : A → Bool) → ((a : A) → T (f a) → T (g a)) → (l : List A) → T (every f l) → T (every g l)
   every-imp f g h l t = in-every g l (λ a m. h a (every-in f a l t m))
 
--- a number of the n from a on, and what is counted in lists joined
-pub many-up : (n a i : ℕ) → a ≤ i → i < a + n → 1 ≤ many i (upFrom n a)
-many-up zero a i h g = absurd (omega arith)
-many-up (suc n) a i h g =
-    bool (eqb i a) (λ t. omega (arith, to-bit (eqb i a) t))
-    (λ t. let ne : i ≡ a → ⊥ = λ e. T-not (eqb i a) t (of-true (eqb i a) (eq-eqb i a e)) in
-    omega (arith, many-up n (suc a) i (omega arith) (omega arith)))
-
-pub tally-gather {ℓ} : {A : Type ℓ} (h : A → Bool) (g : ℕ → List A) (l : List ℕ) (i : ℕ) → 1 ≤ many i l → 1 ≤ tally h (g i) → 1 ≤ tally h (gather g l)
-tally-gather h g [] i k m = absurd (omega arith)
-tally-gather h g (a ∷ l) i k m =
-    let e = tally-append h (g a) (gather g l) in
-    bool (eqb i a)
-    (λ t. let q : tally h (g i) ≡ tally h (g a) = ap (λ j. tally h (g j)) (eqb→eq i a t) in omega arith)
-    (λ t. omega (arith, tally-gather h g l i (omega (arith, no-bit (eqb i a) (T-not (eqb i a) t))) m))
-
 -- flags
 pub and-t : (a b : Bool) → a && b ≡ true → (a ≡ true) × (b ≡ true)
 and-t true b t = (refl, t)
@@ -463,6 +459,48 @@ and-assoc false b c = refl
 pub and-true : (a : Bool) → a && true ≡ a
 and-true true = refl
 and-true false = refl
+
+-- by cases on a test that chooses between two
+pub by-case {ℓ κ} : {A : Type κ} (P : A → Type ℓ) (s : Bool) (y z : A) → (T s → P y) → (T (not s) → P z) → P (elim s as (λ _. A) [ true ↦ y | false ↦ z ])
+by-case P true y z f g = f tt
+by-case P false y z f g = g tt
+
+-- the numbers from a on, each once; and a part of a list
+pub upFrom-in : (n a c : ℕ) → 1 ≤ many c (upFrom n a) → (a ≤ c) × (c < a + n)
+upFrom-in zero a c h = absurd (omega arith)
+upFrom-in (suc n) a c h =
+    bool (eqb c a) (λ t. let e = eqb→eq c a t in (omega arith, omega arith))
+    (λ t. let i = upFrom-in n (suc a) c (omega (arith, no-bit (eqb c a) (T-not (eqb c a) t))) in (omega arith, omega arith))
+
+pub upFrom-once : (n a c : ℕ) → many c (upFrom n a) ≤ 1
+upFrom-once zero a c = omega arith
+upFrom-once (suc n) a c =
+    bool (leb 1 (many c (upFrom n (suc a))))
+    (λ t. let i = upFrom-in n (suc a) c (leb→le 1 (many c (upFrom n (suc a))) t) in
+    omega (arith, no-bit (eqb c a) (λ y. omega (arith, eqb→eq c a y)), upFrom-once n (suc a) c))
+    (λ t. omega (arith, nleb→lt 1 (many c (upFrom n (suc a))) t, bit-most (eqb c a)))
+
+pub tally-take {ℓ} : {A : Type ℓ} (g : A → Bool) (n : ℕ) (l : List A) → tally g (take n l) ≤ tally g l
+tally-take g n l =
+    let e : tally g l ≡ tally g (take n l) + tally g (drop n l) = ap (tally g) (sym (take-append-drop n l)) ∙ tally-append g (take n l) (drop n l) in
+    omega arith
+
+-- a number that a test keeps passes it
+pub many-only : (f : ℕ → Bool) (c : ℕ) (l : List ℕ) → 1 ≤ many c (only f l) → T (f c)
+many-only f c l h =
+    let i = found (eqb c) (only f l) h in
+    let e : c ≡ i .0 = eqb→eq c (i .0) (i .1) in
+    subst (λ a. T (f a)) (sym e) (every-in f (i .0) (only f l) (every-only f (λ _. true) f (λ a t _. t) l (in-every (λ _. true) l (λ _ _. tt))) (i .2))
+
+-- a test counted in two parts by another
+pub tally-parts {ℓ} : {A : Type ℓ} (f g : A → Bool) (l : List A) → tally f l ≡ tally (λ a. f a && g a) l + tally (λ a. f a && not (g a)) l
+tally-parts f g [] = refl
+tally-parts f g (a ∷ l) = omega (arith, go (f a) (g a), tally-parts f g l)
+  where
+    go : (b c : Bool) → bit b ≡ bit (b && c) + bit (b && not c)
+    go true true = refl
+    go true false = refl
+    go false c = refl
 
 -- pages' words: stores, padding, entries joined, and numbers that pass a test
 pub ne-of-bit : (c j : ℕ) → bit (eqb c j) ≡ 0 → (c ≡ j → ⊥)
@@ -501,6 +539,10 @@ module _ {ℓ} {A : Type ℓ} where
   sets-nil : (i : ℕ) (ys : List A) → _≡_ {A = List A} (sets [] i ys) []
   sets-nil i [] = refl
   sets-nil i (y ∷ ys) = sets-nil (suc i) ys
+
+  pub sets-append : (l : List A) (i : ℕ) (xs ys : List A) → sets (sets l i xs) (i + length xs) ys ≡ sets l i (xs ++ ys)
+  sets-append l i [] ys = ap (λ j. sets l j ys) (add-zero i)
+  sets-append l i (x ∷ xs) ys = let e : i + suc (length xs) ≡ suc i + length xs = omega arith in ap (λ j. sets (sets l i (x ∷ xs)) j ys) e ∙ sets-append (set l i x) (suc i) xs ys
 
   sets-front : (xs ys zs : List A) → length zs ≡ length xs → sets (xs ++ ys) 0 zs ≡ zs ++ ys
   sets-front [] ys [] h = refl
@@ -599,3 +641,70 @@ only-claimed g g′ (suc n) c r free same gone e = go (g c) refl e (λ v. only-c
     go false u v ih =
         let z : g′ c ≡ false = bool (eqb c r) (λ t. ap g′ (eqb→eq c r t) ∙ gone) (λ t. same c (no-bit (eqb c r) (T-not (eqb c r) t)) ∙ u) in
         rw z (ih v)
+
+-- runs of stores
+module _ {ℓ} {A : Type ℓ} where
+  -- a whole list stored over another of its length; what is stored past the end is lost
+  pub sets-whole : (x v : List A) → length v ≡ length x → sets x 0 v ≡ v
+  sets-whole x v e = sets-eq v x 0 (omega arith) ∙ ap (λ (l : List A). v ++ l) (drop-of-length-le x {i = 0 + length v} (omega arith)) ∙ append-nil v
+
+  pub sets-out : (x v : List A) (i : ℕ) → length x ≤ i → sets x i v ≡ x
+  sets-out x [] i h = refl
+  sets-out x (a ∷ v) i h = rw (set-out x i a h) (sets-out x v (suc i) (omega arith))
+
+  -- stores from the front on: the first fill the list, the rest of it stays
+  pub sets-fill : (x v : List A) → sets x 0 v ≡ take (length x) v ++ drop (length v) x
+  sets-fill x v = go (leb (length v) (length x)) refl
+    where
+      go : (b : Bool) → leb (length v) (length x) ≡ b → sets x 0 v ≡ take (length x) v ++ drop (length v) x
+      go true e =
+          let h : length v ≤ length x = leb-true (length v) (length x) e in
+          let z : 0 + length v ≡ length v = omega arith in
+          sets-eq v x 0 (omega arith) ∙ rw (z, take-all (length x) v h)
+      go false e =
+          let h : length x < length v = leb-false (length v) (length x) e in
+          let m = length x in
+          let l : length (take m v) ≡ m = length-take-le m v (omega arith) in
+          ap (sets x 0) (sym (take-append-drop m v))
+          ∙ sym (sets-append x 0 (take m v) (drop m v))
+          ∙ ap (λ y. sets y (0 + length (take m v)) (drop m v)) (sets-whole x (take m v) l)
+          ∙ sets-out (take m v) (drop m v) (0 + length (take m v)) (omega arith)
+          ∙ sym (ap (λ y. take m v ++ y) (drop-of-length-le x {i = length v} (omega arith)) ∙ append-nil (take m v))
+
+-- the numbers from a on: a test of each, and the sum over a list of them
+pub every-up : (f : ℕ → Bool) (n a : ℕ) → T (every f (upFrom n a)) → (j : ℕ) → a ≤ j → j < a + n → T (f j)
+every-up f zero a t j h g = absurd (omega arith)
+every-up f (suc n) a t j h g =
+    bool (eqb j a) (λ y. rw (eqb→eq j a y) (and-l (f a) _ t))
+    (λ y. let ne : j ≡ a → ⊥ = λ e. T-not (eqb j a) y (of-true (eqb j a) (eq-eqb j a e)) in every-up f n (suc a) (and-r (f a) _ t) j (omega arith) (omega arith))
+
+pub up-every : (f : ℕ → Bool) (n a : ℕ) → ((j : ℕ) → a ≤ j → j < a + n → T (f j)) → T (every f (upFrom n a))
+up-every f zero a g = tt
+up-every f (suc n) a g = and-i (f a) _ (g a (omega arith) (omega arith)) (up-every f n (suc a) (λ j h k. g j (omega arith) (omega arith)))
+
+pub sum-append : (f : ℕ → ℕ) (l m : List ℕ) → sum (map f (l ++ m)) ≡ sum (map f l) + sum (map f m)
+sum-append f [] m = sym (zero-add (sum (map f m)))
+sum-append f (a ∷ l) m = omega (arith, sum-append f l m)
+
+pub sum-spread : (f : ℕ → ℕ) (ps : List ℕ) (n a : ℕ) → Ranged n a ps → sum (map f ps) ≡ sum (map (λ j. many j ps * f j) (upFrom n a))
+sum-spread f [] n a h = sym (sum-same (λ j. 0 * f j) (λ j. 0) (λ j. zero-mul (f j)) (upFrom n a) ∙ sum-none (upFrom n a))
+sum-spread f (p ∷ ps) n a h =
+    let i = h .is p (omega (arith, self p)) in
+    let rest = sum-spread f ps n a (record { is = λ c k. h .is c (omega arith) }) in
+    let one = sum-same (λ j. bit (eqb j p) * f j) (λ j. cond (eqb j p) (f p) 0) (λ j. hit j (eqb j p) (eqb→eq j p)) (upFrom n a) ∙ sum-hit (f p) p n a (i .0) (i .1) in
+    sym (sum-same (λ j. (bit (eqb j p) + many j ps) * f j) (λ j. bit (eqb j p) * f j + many j ps * f j) (λ j. add-mul (bit (eqb j p)) (many j ps) (f j)) (upFrom n a)
+    ∙ (sum-add (λ j. bit (eqb j p) * f j) (λ j. many j ps * f j) (upFrom n a) ∙ omega arith))
+  where
+    hit : (j : ℕ) (t : Bool) → (T t → j ≡ p) → bit t * f j ≡ cond t (f p) 0
+    hit j true e = omega (arith, suc-mul 0 (f j), zero-mul (f j), ap f (e tt))
+    hit j false e = zero-mul (f j)
+
+-- a sum over pages that stand once, and over all numbers, where the other numbers count nothing
+pub sum-once : (f : ℕ → ℕ) (ps : List ℕ) (n a : ℕ) → Ranged n a ps → ((c : ℕ) → many c ps ≤ 1) → ((c : ℕ) → many c ps ≡ 0 → f c ≡ 0)
+    → sum (map f ps) ≡ sum (map f (upFrom n a))
+sum-once f ps n a h once out =
+    sum-spread f ps n a h ∙ sum-same (λ j. many j ps * f j) f (λ j. go j (many j ps) (once j) (out j)) (upFrom n a)
+  where
+    go : (j m : ℕ) → m ≤ 1 → (m ≡ 0 → f j ≡ 0) → m * f j ≡ f j
+    go j zero h z = zero-mul (f j) ∙ sym (z refl)
+    go j (suc m) h z = let e : m ≡ 0 = omega arith in rw e (omega (arith, suc-mul 0 (f j), zero-mul (f j)))

@@ -9,12 +9,13 @@ use lib.Dec.{T, leb, ltb, eqb, leb→le, nleb→lt, ltb→lt, nltb→le}
 use lib.ListN.{length, take, drop, getD, length-take, length-append}
 use lib.Seq.{take-all, take-append-le, getD-take, getD-drop}
 use borrow.Author.Tests.{le-ltb}
-use Rattle.kdb.specs.Lists.{bit, only, every, many}
+use Rattle.kdb.specs.Lists.{only, every, many}
 use Rattle.kdb.specs.Box.{Box, Key, within, meets, inWindow}
 use Rattle.kdb.specs.Pages.{Ent, Page, blank, recsIn, entsIn, isPoints, isRegions, pointsPer, regionsPer, readPage, page}
 use Rattle.kdb.specs.Pool.{domains, rootAt, levelsAt, pagesIn, view, goodLength, goodHeader}
 use Rattle.kdb.specs.Walk.{Spot, spots, Tour, still, astray, badAt, readAt, follow, through, isPage, goodPoints, goodRegions, tour, bounded, listWalk, End, rootless, bad, absent, here, Search, ends, after, spotOf, into, seek, findWalk}
 use Rattle.kdb.specs.Calls.{Call, format, check, place, remove, find, list, Buffers, Outcome, Test, _or_, unless, judge, tests, core, finding, listing, lent, finite, ordered, outcome, windowOf, begins, walkOf}
+use Rattle.kdb.specs.Demands.{Agree, Told, walks, Local}
 use Rattle.kdb.proofs.Lists.{and-i, bool, cases, is-true, self, tally-front, take-past, take-less, many-append}
 
 -- the walks begin with the same m + 1 pages and, if the first reads no more than m, are the same
@@ -185,12 +186,6 @@ bounded-seen Q L w N t =
 header-word : (L : ℕ) (w : List ℕ) (i : ℕ) → i < L → getD (page L w 0) i 0 ≡ getD w i 0
 header-word L w i h = let e : L * 0 + i ≡ i = omega arith in getD-take L (drop (L * 0) w) i 0 h ∙ getD-drop (L * 0) w i 0 ∙ ap (λ n. getD w n 0) e
 
--- two pools of one length, with the same header and the same pages of a list
-pub record Agree (L : ℕ) (w w′ : List ℕ) (read : List ℕ) : Type 0 where
-  pub long : length w′ ≡ length w
-  pub header : page L w′ 0 ≡ page L w 0
-  pub pages : (j : ℕ) → 1 ≤ many j read → page L w′ j ≡ page L w j
-
 module _ (L : ℕ) (four : 4 ≤ L) (w w′ : List ℕ) where
   agree-word : (read : List ℕ) → Agree L w w′ read → (i : ℕ) → i < 4 → getD w′ i 0 ≡ getD w i 0
   agree-word read a i h = sym (header-word L w′ i (omega arith)) ∙ ap (λ l. getD l i 0) (a .header) ∙ header-word L w i (omega arith)
@@ -241,12 +236,6 @@ same-header L w w′ l h f =
     let e3 : levelsAt w′ ≡ levelsAt w = f 3 (omega arith) in
     rw (h, l, e, e1, e2, e3)
 
--- the same number, the same values, the same answer buffer
-pub record Told (o o′ : Outcome) : Type 0 where
-  pub number : o′ .number ≡ o .number
-  pub values : o′ .values ≡ o .values
-  pub answer : o′ .after .answer ≡ o .after .answer
-
 judge-told : (ts : List Test) (b b′ : Buffers) (o o′ : Outcome) → b′ .answer ≡ b .answer → (T (every (λ t. t .holds) ts) → Told o o′)
     → Told (judge ts b o) (judge ts b′ o′)
 judge-told [] b b′ o o′ d f = f tt
@@ -266,15 +255,6 @@ listing-told : (read : List ℕ) (z : Bool) (found : List Spot) (w w′ answer :
     → Told (listing (record { read = read; bad = z; found = found }) w answer) (listing (record { read = read; bad = z; found = found }) w′ answer)
 listing-told read true found w w′ answer = record { number = refl; values = refl; answer = refl }
 listing-told read false found w w′ answer = record { number = refl; values = refl; answer = refl }
-
--- the calls that have a walk
-abbrev pub walks : Call → Bool
-walks (format k) = false
-walks check = false
-walks (place work p l) = false
-walks (remove p) = false
-walks (find p) = true
-walks (list v answer) = true
 
 module _ (w w′ : List ℕ) where
   -- the pages of a walk that begins
@@ -365,3 +345,6 @@ module _ (w w′ : List ℕ) where
   told-local c t a =
       subst (λ ts. Told (judge (tests w c) (lent w c) (core w c)) (judge ts (lent w′ c) (core w′ c))) (sym (tests-same c t a))
       (judge-told (tests w c) (lent w c) (lent w′ c) (core w c) (core w′ c) (lent-answer c) (core-told c t a))
+
+pub local : (w w′ : List ℕ) → Local w w′
+local w w′ c t a = (walk-local w w′ c a, told-local w w′ c t a)

@@ -42,7 +42,7 @@ mutual
   own-out (leaf p d rs) r j h = rw (miss j p 0 h)
   own-out (node p d f) r j h = rw (miss j p (many j (pagesF f)) h) (own-outF f j (omega arith))
 
-  own-outF : (f : Forest) (j : ℕ) → many j (pagesF f) ≡ 0 → ownInF f j ≡ none
+  pub own-outF : (f : Forest) (j : ℕ) → many j (pagesF f) ≡ 0 → ownInF f j ≡ none
   own-outF fnil j h = refl
   own-outF (fcons b t f) j h = let a = many-append j (pages t) (pagesF f) in rw (own-out t b j (omega arith)) (own-outF f j (omega arith))
 

@@ -87,12 +87,6 @@ sides-back : (b : Box) → sides (lows b) (highs b) ≡ b
 sides-back [] = refl
 sides-back (s ∷ b) = ap (λ c. s ∷ c) (sides-back b)
 
-pub sides-length : (k : ℕ) (ls us : List ℕ) → length ls ≡ k → length us ≡ k → length (sides ls us) ≡ k
-sides-length k [] us h g = h
-sides-length zero (l ∷ ls) us h g = absurd (omega arith)
-sides-length (suc k) (l ∷ ls) [] h g = absurd (omega arith)
-sides-length (suc k) (l ∷ ls) (u ∷ us) h g = ap suc (sides-length k ls us (omega arith) (omega arith))
-
 pub both-length : (k : ℕ) (b : Box) → length b ≡ k → length (lows b ++ highs b) ≡ 2 * k
 both-length k b h = length-append (lows b) (highs b) ∙ omega (arith, length-map b (λ s. s .lo), length-map b (λ s. s .hi), h)
 

@@ -57,21 +57,21 @@ says-numbered N (p ∷ ps) h =
     (says-numbered N ps (record { inside = λ c j. h .inside c (omega arith); once = λ c. omega (arith, h .once c) }))
 
 module _ (k R P : ℕ) where
-  point-says : (d : ℕ) (rs : List Rec) (r : Box) → T (pointPage k R P d rs r) → PointPage k P d rs r
+  pub point-says : (d : ℕ) (rs : List Rec) (r : Box) → T (pointPage k R P d rs r) → PointPage k P d rs r
   point-says d rs r h =
       let q = and-4 (leb (length rs) P) (ltb d k) (every (λ q. within r (q .key)) rs) (differ rs) h in
       record { room = leb→le (length rs) P (q .0); domain = ltb→lt d k (q .1); inside = q .2; distinct = q .3 }
 
-  says-point : (d : ℕ) (rs : List Rec) (r : Box) → PointPage k P d rs r → T (pointPage k R P d rs r)
+  pub says-point : (d : ℕ) (rs : List Rec) (r : Box) → PointPage k P d rs r → T (pointPage k R P d rs r)
   says-point d rs r h =
       and-4i (leb (length rs) P) (ltb d k) (every (λ q. within r (q .key)) rs) (differ rs) (le→leb (length rs) P (h .room)) (lt→ltb d k (h .domain)) (h .inside) (h .distinct)
 
-  region-says : (d : ℕ) (bs : List Box) (r : Box) → T (regionPage k R P d bs r) → RegionPage k R d bs r
+  pub region-says : (d : ℕ) (bs : List Box) (r : Box) → T (regionPage k R P d bs r) → RegionPage k R d bs r
   region-says d bs r h =
       let q = and-4 (leb 1 (length bs)) (leb (length bs) R) (ltb d k) _ h in
       record { filled = leb→le 1 (length bs) (q .0); room = leb→le (length bs) R (q .1); domain = ltb→lt d k (q .2); tiled = tiles-iff r bs .0 (q .3) }
 
-  says-region : (d : ℕ) (bs : List Box) (r : Box) → RegionPage k R d bs r → T (regionPage k R P d bs r)
+  pub says-region : (d : ℕ) (bs : List Box) (r : Box) → RegionPage k R d bs r → T (regionPage k R P d bs r)
   says-region d bs r h =
       and-4i (leb 1 (length bs)) (leb (length bs) R) (ltb d k) _ (le→leb 1 (length bs) (h .filled)) (le→leb (length bs) R (h .room)) (lt→ltb d k (h .domain)) (tiles-iff r bs .1 (h .tiled))
 
@@ -426,11 +426,11 @@ module _ (L : ℕ) (w : List ℕ) where
   ents-at-page n [] = refl
   ents-at-page n (e ∷ es) = ap₂ _∷_ (ap (λ (c : ℕ). record { box = e .box; child = c }) (root-at n (e .child))) (ents-at-page n es)
 
-  boxes-at-page : (n : ℕ) (es : List Ent) → boxes (forest (treeAt L w n) es) ≡ map (λ e. e .box) es
+  pub boxes-at-page : (n : ℕ) (es : List Ent) → boxes (forest (treeAt L w n) es) ≡ map (λ e. e .box) es
   boxes-at-page n [] = refl
   boxes-at-page n (e ∷ es) = ap (λ l. e .box ∷ l) (boxes-at-page n es)
 
-  used-number : (j : ℕ) → T (inUse (view L w j)) → (1 ≤ j) × (j < pagesIn L w)
+  pub used-number : (j : ℕ) → T (inUse (view L w j)) → (1 ≤ j) × (j < pagesIn L w)
   used-number j =
       bool (leb 1 j && ltb j (pagesIn L w))
       (λ t u. (leb→le 1 j (and-l (leb 1 j) _ t), ltb→lt j (pagesIn L w) (and-r (leb 1 j) _ t)))

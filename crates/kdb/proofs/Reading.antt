@@ -1,29 +1,33 @@
 -- The walks on a sound pool are the tree's: list reads the pages whose own regions meet the window, each once, and finds the records in
 -- it; a window of one point, and find, read one page of each level.
 use mathlib.Core.Bool.{Bool, true, false, _&&_, not, cond}
-use mathlib.Core.List.{List, [], _∷_, _++_, map, map-append}
+use mathlib.Core.List.{append-nil, List, [], _∷_, _++_, map, map-append}
+use mathlib.Core.Logic.{_↔_, _⊎_, inl, inr}
 use mathlib.Core.Option.{Option, none, some}
 use mathlib.Core.Path.{_≡_, refl, sym, ap, ap₂, _∙_, subst}
 use Prim.Native.Nat.{ℕ, zero, suc, _+_, _-_, _<_, _≤_}
 use native.Mathlib.Omega.{arith}
-use lib.Dec.{T, leb, ltb, eqb, le→leb, lt→ltb, T-not, not-T, eqb→eq}
+use lib.Dec.{T, leb, ltb, eqb, le→leb, lt→ltb, T-not, not-T}
 use lib.ListN.{length, take, length-append}
 use borrow.Author.Tests.{lt-ltb, ne-eqb}
-use Rattle.kdb.specs.Lists.{bit, only, tally, every, any, Each, many, same}
+use Rattle.kdb.specs.Lists.{bit, only, tally, every, many, same}
 use Rattle.kdb.specs.Box.{Box, Key, sides, whole, within, inWindow, meets}
-use Rattle.kdb.specs.Tree.{Rec, Tree, leaf, node, Forest, fnil, fcons, State, root, boxes, levels, levelsF, pages, pagesF, records, recordsF, pagesOf, recordsOf}
+use Rattle.kdb.specs.Tree.{Rec, Tree, leaf, node, Forest, fnil, fcons, State, root, boxes, levels, pages, pagesF, records, recordsF, pagesOf, recordsOf}
 use Rattle.kdb.specs.Tiling.{Tiles, holders}
-use Rattle.kdb.specs.Pages.{Ent, Page, blank, points, regions, recsIn, entsIn, isPoints, isRegions, pointsPer, regionsPer}
-use Rattle.kdb.specs.Shape.{PointPage, RegionPage, Shaped, ShapedF, WellFormed}
-use Rattle.kdb.specs.Pool.{domains, rootAt, levelsAt, pagesIn, view}
-use Rattle.kdb.specs.Print.{ents, orPage, pageOf, pageOfF, pageAt}
+use Rattle.kdb.specs.Pages.{points, regions, recsIn, entsIn, isPoints, isRegions, pointsPer, regionsPer}
+use Rattle.kdb.specs.Shape.{Shaped, ShapedF}
+use Rattle.kdb.specs.Pool.{domains, rootAt, levelsAt, pagesIn, numbers, view, ownRegion}
+use Rattle.kdb.specs.Print.{ents}
 use Rattle.kdb.specs.Walk.{Spot, spots, Tour, still, follow, through, readAt, isPage, goodPoints, goodRegions, tour, bounded, listWalk, End, rootless, bad, absent, here, Search, ends, after, spotOf, into, seek, findWalk}
-use Rattle.kdb.proofs.Lists.{and-i, and-l, and-r, bool, cases, bool-eq, is-true, is-false, of-bit, to-bit, no-bit, self, only-append, every-append, every-imp, tally-append, many-append, same-eq, In, in-head, in-left, in-right, once-length, once-tally}
+use Rattle.kdb.specs.Demands.{Shares, met}
+use Rattle.kdb.proofs.Lists.{and-i, and-l, and-r, cases, bool-eq, is-false, of-bit, to-bit, no-bit, self, only-append, every-append, every-imp, tally-append, many-append, same-eq, In, in-head, in-left, in-right, every-many, once-length, once-tally}
 use Rattle.kdb.proofs.Box.{window-i, window-e, meets-of, at-meet}
 use Rattle.kdb.proofs.Tiling.{tiles-counted}
 use Rattle.kdb.proofs.Views.{Seen, SeenF, ents-boxes, among}
 use Rattle.kdb.proofs.Stands.{Stands}
+use Rattle.kdb.proofs.Walk.{page-e, list-pages}
 use Rattle.kdb.proofs.Print.{some-levels, stands-seen}
+use Rattle.kdb.proofs.Own.{orBox, ownIn, ownInF, own-out, own-outF, own-region}
 
 -- the tree's walk of a window: the pages read and the records found
 abbrev mutual
@@ -256,11 +260,25 @@ module _ (k R P : ℕ) where
 
   -- a window of one point reads one page of each level
   module _ (v : Box) (q : Key) (o : OnePoint v q) where
-    none-readsF : (f : Forest) → holders (boxes f) q ≡ 0 → length (readsF f v) ≡ 0
+    none-readsF : (f : Forest) → holders (boxes f) q ≡ 0 → readsF f v ≡ []
     none-readsF fnil h = refl
     none-readsF (fcons b t f) h =
-        ap (λ z. length (cond z (reads t v) [] ++ readsF f v)) (point-meets v q o b ∙ is-false (within b q) (not-T (within b q) (λ t. omega (arith, to-bit (within b q) t))))
+        ap (λ z. cond z (reads t v) [] ++ readsF f v) (point-meets v q o b ∙ is-false (within b q) (not-T (within b q) (λ t. omega (arith, to-bit (within b q) t))))
         ∙ none-readsF f (omega arith)
+
+    -- they are the pages that the search of the point reads
+    mutual
+      one-path : (t : Tree) (n : ℕ) (r : Box) → Shaped k R P t n r → T (within r q) → seeks t q .read ≡ reads t v
+      one-path (leaf p d rs) n r s h = refl
+      one-path (node p d f) zero r s h = absurd s
+      one-path (node p d f) (suc n) r s h = ap (λ l. p ∷ l) (one-pathF f n (s .1) (tiles-counted r (boxes f) (s .0 .tiled) .once q ∙ to-bit (within r q) h))
+
+      one-pathF : (f : Forest) (n : ℕ) → ShapedF k R P f n → holders (boxes f) q ≡ 1 → seeksF f q .read ≡ readsF f v
+      one-pathF fnil n s h = absurd (omega arith)
+      one-pathF (fcons b t f) n s h =
+          cases (λ z. bit z + holders (boxes f) q ≡ 1 → cond z (seeks t q) (seeksF f q) .read ≡ cond z (reads t v) [] ++ readsF f v) (within b q)
+          (λ i e. one-path t n b (s .0) i ∙ sym (ap (λ l. reads t v ++ l) (none-readsF f (omega arith)) ∙ append-nil (reads t v))) (λ _ e. one-pathF f n (s .1) (omega arith)) h
+          ∙ sym (ap (λ z. cond z (reads t v) [] ++ readsF f v) (point-meets v q o b))
 
     mutual
       one-reads : (t : Tree) (n : ℕ) (r : Box) → Shaped k R P t n r → T (within r q) → length (reads t v) ≡ suc n
@@ -273,7 +291,7 @@ module _ (k R P : ℕ) where
       one-readsF (fcons b t f) n s h =
           ap (λ z. length (cond z (reads t v) [] ++ readsF f v)) (point-meets v q o b)
           ∙ cases (λ z. bit z + holders (boxes f) q ≡ 1 → length (cond z (reads t v) [] ++ readsF f v) ≡ suc n) (within b q)
-          (λ i e. omega (arith, length-append (reads t v) (readsF f v), none-readsF f (omega arith), one-reads t n b (s .0) i)) (λ _ e. one-readsF f n (s .1) (omega arith)) h
+          (λ i e. omega (arith, length-append (reads t v) (readsF f v), ap length (none-readsF f (omega arith)), one-reads t n b (s .0) i)) (λ _ e. one-readsF f n (s .1) (omega arith)) h
 
   -- the search reads one page of each level, and ends at the record with the key exactly if there is one
   module _ (q : Key) where
@@ -321,21 +339,17 @@ mutual
       (λ _. omega (arith, many-append c (reads t v) (readsF f v), many-append c (pages t) (pagesF f), reads-most t v c, reads-mostF f v c))
       (λ _. omega (arith, many-append c (pages t) (pagesF f), reads-mostF f v c))
 
--- the region, if there is one, meets the window
-abbrev pub met : Box → Option Box → Bool
-met v none = false
-met v (some r) = meets r v
+-- the first of two regions that is there
+met-or : (v : Box) (a b : Option Box) → met v a ≡ false → met v b ≡ false → met v (orBox a b) ≡ false
+met-or v none b h g = g
+met-or v (some r) b h g = h
 
--- o gives every page of the tree its own region: the one in the entry above it, the tree's own region for its root
-module _ (o : ℕ → Option Box) where
-  abbrev mutual
-    pub Owned : Tree → Box → Type 0
-    Owned (leaf p d rs) r = o p ≡ some r
-    Owned (node p d f) r = (o p ≡ some r) × OwnedF f
-
-    pub OwnedF : Forest → Type 0
-    OwnedF fnil = Unit {0}
-    OwnedF (fcons b t f) = Owned t b × OwnedF f
+-- of two regions, one of which is none
+met-one : (v : Box) (a b : Option Box) → (a ≡ none) ⊎ (b ≡ none) → bit (met v (orBox a b)) ≡ bit (met v a) + bit (met v b)
+met-one v none b h = omega arith
+met-one v (some r) none h = omega arith
+met-one v (some r) (some c) (inl e) = absurd (let z : _≡_ {A = ℕ} 0 1 = cc in omega arith)
+met-one v (some r) (some c) (inr e) = absurd (let z : _≡_ {A = ℕ} 0 1 = cc in omega arith)
 
 -- a region that misses the window: so do the regions below it
 below-misses : {b r : Box} {bs : List Box} (v : Box) → Below (b ∷ bs) r → T (not (meets r v)) → T (not (meets b v))
@@ -343,46 +357,42 @@ below-misses {b} {r} v u h =
     not-T (meets b v) (λ m. let i = at-meet b v m in T-not (meets r v) h (meets-of r v (i .0) (head-below u (i .0) (i .1)) (i .2)))
 
 -- the pages read are those whose own regions meet the window
-module _ (k R P : ℕ) (v : Box) (o : ℕ → Option Box) where
-  met-at : (r : Box) (p j : ℕ) → o p ≡ some r → T (eqb j p) → met v (o j) ≡ meets r v
-  met-at r p j e t = ap (λ c. met v (o c)) (eqb→eq j p t) ∙ ap (met v) e
+module _ (k R P : ℕ) (v : Box) (j : ℕ) where
+  mutual
+    own-misses : (t : Tree) (n : ℕ) (r : Box) → Shaped k R P t n r → T (not (meets r v)) → met v (ownIn t r j) ≡ false
+    own-misses (leaf p d rs) n r s m = cases (λ z. met v (cond z (some r) none) ≡ false) (eqb j p) (λ _. is-false (meets r v) m) (λ _. refl)
+    own-misses (node p d f) zero r s m = absurd s
+    own-misses (node p d f) (suc n) r s m =
+        cases (λ z. met v (cond z (some r) (ownInF f j)) ≡ false) (eqb j p) (λ _. is-false (meets r v) m) (λ _. own-missesF f n r (s .1) (below (s .0 .tiled)) m)
+
+    own-missesF : (f : Forest) (n : ℕ) (r : Box) → ShapedF k R P f n → Below (boxes f) r → T (not (meets r v)) → met v (ownInF f j) ≡ false
+    own-missesF fnil n r s u m = refl
+    own-missesF (fcons b t f) n r s u m =
+        met-or v (ownIn t b j) (ownInF f j) (own-misses t n b (s .0) (below-misses v u m)) (own-missesF f n r (s .1) (tail-below u) m)
 
   mutual
-    own-misses : (t : Tree) (n : ℕ) (r : Box) → Shaped k R P t n r → Owned o t r → T (not (meets r v)) → (j : ℕ) → 1 ≤ many j (pages t) → met v (o j) ≡ false
-    own-misses (leaf p d rs) n r s e m j i =
-        bool (eqb j p) (λ y. met-at r p j e y ∙ is-false (meets r v) m) (λ y. absurd (omega (arith, no-bit (eqb j p) (T-not (eqb j p) y))))
-    own-misses (node p d f) zero r s e m j i = absurd s
-    own-misses (node p d f) (suc n) r s e m j i =
-        bool (eqb j p) (λ y. met-at r p j (e .0) y ∙ is-false (meets r v) m)
-        (λ y. own-missesF f n r (s .1) (e .1) (below (s .0 .tiled)) m j (omega (arith, no-bit (eqb j p) (T-not (eqb j p) y))))
+    pub own-reads : (t : Tree) (n : ℕ) (r : Box) → Shaped k R P t n r → T (meets r v) → many j (pages t) ≤ 1 → many j (reads t v) ≡ bit (met v (ownIn t r j))
+    own-reads (leaf p d rs) n r s m o =
+        cases (λ z. bit z + 0 ≡ bit (met v (cond z (some r) none))) (eqb j p) (λ _. omega (arith, to-bit (meets r v) m)) (λ _. refl)
+    own-reads (node p d f) zero r s m o = absurd s
+    own-reads (node p d f) (suc n) r s m o =
+        cases (λ z. bit z + many j (pagesF f) ≤ 1 → bit z + many j (readsF f v) ≡ bit (met v (cond z (some r) (ownInF f j)))) (eqb j p)
+        (λ _ o. omega (arith, to-bit (meets r v) m, reads-mostF f v j)) (λ _ o. omega (arith, own-readsF f n (s .1) (omega arith))) o
 
-    own-missesF : (f : Forest) (n : ℕ) (r : Box) → ShapedF k R P f n → OwnedF o f → Below (boxes f) r → T (not (meets r v)) → (j : ℕ) → 1 ≤ many j (pagesF f) → met v (o j) ≡ false
-    own-missesF fnil n r s e u m j i = absurd (omega arith)
-    own-missesF (fcons b t f) n r s e u m j i =
-        among j (pages t) (λ y. own-misses t n b (s .0) (e .0) (below-misses v u m) j y)
-        (λ z. own-missesF f n r (s .1) (e .1) (tail-below u) m j (omega (arith, many-append j (pages t) (pagesF f))))
-
-  mutual
-    own-reads : (t : Tree) (n : ℕ) (r : Box) → Shaped k R P t n r → Owned o t r → T (meets r v) → (j : ℕ) → many j (pages t) ≡ 1 → many j (reads t v) ≡ bit (met v (o j))
-    own-reads (leaf p d rs) n r s e m j i =
-        bool (eqb j p) (λ y. omega (arith, ap bit (met-at r p j e y), to-bit (meets r v) m, to-bit (eqb j p) y))
-        (λ y. absurd (omega (arith, no-bit (eqb j p) (T-not (eqb j p) y))))
-    own-reads (node p d f) zero r s e m j i = absurd s
-    own-reads (node p d f) (suc n) r s e m j i =
-        bool (eqb j p) (λ y. omega (arith, ap bit (met-at r p j (e .0) y), to-bit (meets r v) m, to-bit (eqb j p) y, reads-mostF f v j))
-        (λ y. let z = no-bit (eqb j p) (T-not (eqb j p) y) in omega (arith, own-readsF f n (s .1) (e .1) j (omega arith)))
-
-    own-readsF : (f : Forest) (n : ℕ) → ShapedF k R P f n → OwnedF o f → (j : ℕ) → many j (pagesF f) ≡ 1 → many j (readsF f v) ≡ bit (met v (o j))
-    own-readsF fnil n s e j i = absurd (omega arith)
-    own-readsF (fcons b t f) n s e j i =
+    own-readsF : (f : Forest) (n : ℕ) → ShapedF k R P f n → many j (pagesF f) ≤ 1 → many j (readsF f v) ≡ bit (met v (ownInF f j))
+    own-readsF fnil n s o = refl
+    own-readsF (fcons b t f) n s o =
         let a = many-append j (pages t) (pagesF f) in
-        among j (pages t)
-        (λ y. cases (λ z. (T z → many j (reads t v) ≡ bit (met v (o j))) → (T (not z) → met v (o j) ≡ false) → many j (cond z (reads t v) [] ++ readsF f v) ≡ bit (met v (o j))) (meets b v)
-        (λ _ g h. omega (arith, g tt, many-append j (reads t v) (readsF f v), reads-mostF f v j)) (λ _ g h. omega (arith, ap bit (h tt), reads-mostF f v j))
-        (λ m. own-reads t n b (s .0) (e .0) m j (omega arith)) (λ m. own-misses t n b (s .0) (e .0) m j y))
-        (λ y. cases (λ z. many j (cond z (reads t v) [] ++ readsF f v) ≡ bit (met v (o j))) (meets b v)
-        (λ _. omega (arith, many-append j (reads t v) (readsF f v), reads-most t v j, own-readsF f n (s .1) (e .1) j (omega arith)))
-        (λ _. own-readsF f n (s .1) (e .1) j (omega arith)))
+        let here : many j (cond (meets b v) (reads t v) []) ≡ bit (met v (ownIn t b j)) =
+        cases (λ z. (T z → many j (reads t v) ≡ bit (met v (ownIn t b j))) → (T (not z) → met v (ownIn t b j) ≡ false) → many j (cond z (reads t v) []) ≡ bit (met v (ownIn t b j))) (meets b v)
+        (λ _ g h. g tt) (λ _ g h. sym (ap bit (h tt))) (λ m. own-reads t n b (s .0) m (omega arith)) (λ m. own-misses t n b (s .0) m) in
+        omega (
+          arith,
+          here,
+          own-readsF f n (s .1) (omega arith),
+          many-append j (cond (meets b v) (reads t v) []) (readsF f v),
+          met-one v (ownIn t b j) (ownInF f j) (among j (pages t) (λ i. inr (own-outF f j (omega arith))) (λ z. inl (own-out t b j z))),
+        )
 
 -- the state's walk and search
 abbrev pub walkedS : State → Box → Tour
@@ -470,6 +480,14 @@ module _ (L : ℕ) (w : List ℕ) where
         seeks-end k (regionsPer L k) (pointsPer L k) q t (levels t - 1) (whole k) (h .formed .shape) i .long,
       )
 
+  -- find's walk is that of the window of its point
+  pub find-path : (v : Box) (q : Key) (s : State) → Stands L w s → OnePoint v q → T (within (whole (domains w)) q) → findWalk L w q .read ≡ listWalk L w v .read
+  find-path v q none h o i = ap (λ g. g .read) (find-tree q none h) ∙ sym (ap (λ t. t .read) (list-tree v none h))
+  find-path v q (some t) h o i =
+      let k = domains w in
+      ap (λ g. g .read) (find-tree q (some t) h) ∙ (one-path k (regionsPer L k) (pointsPer L k) v q o t (levels t - 1) (whole k) (h .formed .shape) i
+      ∙ sym (ap (λ t. t .read) (list-tree v (some t) h)))
+
   pub find-rootless : (q : Key) → Stands L w none → findWalk L w q .end ≡ rootless
   find-rootless q h = ap (λ g. g .end) (find-tree q none h)
 
@@ -478,3 +496,32 @@ module _ (L : ℕ) (w : List ℕ) where
       let k = domains w in
       subst (λ g. Answers (records t) q (g .end)) (sym (find-tree q (some t) h))
       (seeks-end k (regionsPer L k) (pointsPer L k) q t (levels t - 1) (whole k) (h .formed .shape) i .answers)
+
+  -- a page is read exactly if its own region meets the window: as often as that is so
+  own-many : (v : Box) (s : State) → Stands L w s → T (meets (whole (domains w)) v) → (j : ℕ) → many j (listWalk L w v .read) ≡ bit (met v (ownRegion L w j))
+  own-many v none h m j = ap (λ t. many j (t .read)) (list-tree v none h) ∙ ap (λ r. bit (met v r)) (sym (own-region L w none h j))
+  own-many v (some t) h m j =
+      let k = domains w in
+      ap (λ t. many j (t .read)) (list-tree v (some t) h)
+      ∙ own-reads k (regionsPer L k) (pointsPer L k) v j t (levels t - 1) (whole k) (h .formed .shape) m (h .formed .numbered .once j)
+      ∙ ap (λ r. bit (met v r)) (sym (own-region L w (some t) h j))
+
+  -- demand 3: page j is on the list exactly if its own region shares a point with the window
+  pub list-reads : (v : Box) (s : State) → Stands L w s → T (meets (whole (domains w)) v) → (j : ℕ) → (1 ≤ many j (listWalk L w v .read)) ↔ Shares v (ownRegion L w j)
+  list-reads v s h m j = (
+    λ i. to (ownRegion L w j) (of-bit (met v (ownRegion L w j)) (omega (arith, own-many v s h m j))),
+    λ q. omega (arith, own-many v s h m j, to-bit (met v (ownRegion L w j)) (from (ownRegion L w j) q)),
+  )
+    where
+      to : (z : Option Box) → T (met v z) → Shares v z
+      to none t = absurd t
+      to (some r) t = (r, refl, at-meet r v t)
+
+      from : (z : Option Box) → Shares v z → T (met v z)
+      from z q = subst (λ z. T (met v z)) (sym (q .1)) (meets-of (q .0) v (q .2 .0) (q .2 .1) (q .2 .2))
+
+  -- and the pages read are as many as the pages whose own regions meet the window
+  pub list-count : (v : Box) (s : State) → Stands L w s → T (meets (whole (domains w)) v) → length (listWalk L w v .read) ≡ tally (λ j. met v (ownRegion L w j)) (numbers L w)
+  list-count v s h m =
+      once-tally (pagesIn L w) (listWalk L w v .read) (λ j. met v (ownRegion L w j))
+      (λ c i. page-e L w c (every-many (isPage L w) (listWalk L w v .read) (list-pages L w v) c i)) (own-many v s h m)

@@ -1,25 +1,25 @@
 -- Splitting a tree in total form: `need` counts the pages claimed and `half` is the tree on a side, so that `split-some` and `split-none`
 -- say what `split` gives. Both halves are well formed, and pages and records are kept, whatever is counted.
-use mathlib.Core.Bool.{Bool, true, false, _&&_, not, cond}
+use mathlib.Core.Bool.{Bool, true, false, cond}
 use mathlib.Core.List.{List, [], _∷_, _++_}
-use mathlib.Core.Option.{Option, none, some}
+use mathlib.Core.Option.{none, some}
 use mathlib.Core.Path.{_≡_, refl, sym, ap, _∙_, subst}
-use Prim.Native.Nat.{ℕ, zero, suc, _+_, _-_, _<_, _≤_}
+use Prim.Native.Nat.{ℕ, zero, suc, _+_, _<_, _≤_}
 use native.Mathlib.Omega.{arith}
 use native.Mathlib.Nat.{zero-add}
-use lib.Dec.{T, leb, ltb, eqb, leb→le, ltb→lt, nltb→le, nleb→lt, T-not, not-T, eqb→eq, eqb-refl}
+use lib.Dec.{T, leb, eqb, leb→le, nleb→lt, eqb→eq}
 use lib.ListN.{length, take, drop, getD, length-drop, take-append-drop}
 use lib.Seq.{take-add, drop-drop}
-use Rattle.kdb.specs.Lists.{bit, only, tally, every, many, same}
-use Rattle.kdb.specs.Box.{Box, Key, within, solid, keyAt, lowerAt, upperAt, leftPart, rightPart}
+use Rattle.kdb.specs.Lists.{only, tally, every, same}
+use Rattle.kdb.specs.Box.{Box, within, solid, leftPart, rightPart}
 use Rattle.kdb.specs.Tree.{Rec, Tree, leaf, node, Forest, fnil, fcons, dom, boxes, levels, levelsF, pages, pagesF, records, recordsF}
-use Rattle.kdb.specs.Cut.{Lies, left, right, across, lies, isLeft, isRight}
-use Rattle.kdb.specs.Tiling.{Tiles, Counted, holders}
+use Rattle.kdb.specs.Cut.{Lies, left, right, across, lies, isLeft}
+use Rattle.kdb.specs.Tiling.{Tiles}
 use Rattle.kdb.specs.Shape.{differ, PointPage, RegionPage, Shaped, ShapedF}
 use Rattle.kdb.specs.Steps.{Two, TwoF, deal, split, splitF}
-use Rattle.kdb.proofs.Lists.{and-l, and-r, and-i, bool, cases, to-bit, tally-append, length-only, tally-most, every-in, In, in-head, every-only, tally-only, tally-halves}
+use Rattle.kdb.proofs.Lists.{and-l, and-r, and-i, bool, cases, to-bit, tally-append, length-only, tally-most, in-head, every-only, tally-only, tally-halves}
 use Rattle.kdb.proofs.Tiling.{low, low-in, solid-of, tiles-counted, lies-case, Inside, on, part, keep, parts, part-within, part-solid, tiles-part}
-use Rattle.kdb.proofs.Cut.{wholly, parts-length, entry-in}
+use Rattle.kdb.proofs.Cut.{parts-length, entry-in}
 
 -- the entry on a side: the whole entry, nothing, or the entry's half
 abbrev pub keepF : Bool → Lies → Box → Box → Tree → Tree → Forest → Forest

@@ -1,18 +1,18 @@
 -- Regions that tile a region: the three ways of saying it agree, `tiles-counted`, `counted-tiles` and `tiles-iff`; and the regions of a
 -- tiling on a side of a cut tile that part of its region, `counted-part`.
-use mathlib.Core.Bool.{Bool, true, false, _&&_, _||_, not, cond}
-use mathlib.Core.List.{List, [], _∷_, _++_}
+use mathlib.Core.Bool.{Bool, true, false, _&&_, not, cond}
+use mathlib.Core.List.{List, [], _∷_}
 use mathlib.Core.Logic.{_↔_, _⊎_, inl, inr}
 use mathlib.Core.Path.{_≡_, refl, sym, ap, _∙_}
 use Prim.Native.Nat.{ℕ, zero, suc, _+_, _<_, _≤_, min, max}
 use native.Mathlib.Omega.{arith}
-use lib.Dec.{T, leb, ltb, leb→le, le→leb, ltb→lt, lt→ltb, nleb→lt, nltb→le, T-not, not-T}
+use lib.Dec.{T, leb, ltb, leb→le, ltb→lt, lt→ltb, nleb→lt, nltb→le, T-not, not-T}
 use lib.ListN.{length}
 use Rattle.kdb.specs.Lists.{bit, tally, every, any, Each}
 use Rattle.kdb.specs.Box.{Side, Box, Key, within, solid, keyAt, lowerAt, upperAt, leftPart, rightPart}
 use Rattle.kdb.specs.Cut.{Lies, left, right, across, lies}
-use Rattle.kdb.specs.Tiling.{Disjoint, Apart, Together, Tiles, holders, Counted, share, apart, fronted, minus, covers, tiles}
-use Rattle.kdb.proofs.Lists.{and-l, and-r, and-i, bool, cases, is-true, is-false, bool-eq, of-bit, to-bit, no-bit, bit-most, tally-same, and-false, and-swap, and-need, and-never, In, in-head, in-tail, found, every-in, in-every, any-in, in-any, tally-and}
+use Rattle.kdb.specs.Tiling.{Disjoint, Apart, Tiles, holders, Counted, share, apart, fronted, minus, covers, tiles}
+use Rattle.kdb.proofs.Lists.{and-l, and-r, and-i, bool, bool-eq, of-bit, to-bit, no-bit, bit-most, and-false, and-swap, and-need, and-never, In, found, every-in, in-every, any-in, in-any, tally-and}
 use Rattle.kdb.proofs.Box.{within-i, within-e}
 
 -- the lowest key of a region

@@ -16,7 +16,7 @@ use Rattle.kdb.specs.Shape.{PointPage, RegionPage, Shaped, ShapedF}
 use Rattle.kdb.specs.Pages.{Page, blank, points, regions, recsIn, inUse}
 use Rattle.kdb.specs.Print.{ents, orPage, pageOf, pageOfF}
 use Rattle.kdb.proofs.Lists.{bool, and-l, and-r, and-i, or-l, or-r, self, to-bit, is-false, of-true, many-append, cond-case, some-many, sum-same, sum-add, sum-none, sum-hit, Ranged}
-use Rattle.kdb.proofs.Box.{within-i, within-e}
+use Rattle.kdb.proofs.Box.{within-i, within-e, within-length}
 use Rattle.kdb.proofs.Tiling.{low, low-in}
 
 module _ (v : ℕ → Page) where
@@ -133,12 +133,6 @@ pub record Under (k : ℕ) (r : Box) : Type 0 where
 
 pub whole-under : (k : ℕ) → Under k (whole k)
 whole-under k = record { keys = λ p h. h }
-
-pub within-length : (r : Box) (p : Key) → T (within r p) → length p ≡ length r
-within-length [] [] h = refl
-within-length [] (x ∷ p) h = absurd h
-within-length (s ∷ b) [] h = absurd h
-within-length (s ∷ b) (x ∷ p) h = ap suc (within-length b p (within-e s x b p h .2))
 
 pub whole-length : (k : ℕ) → length (whole k) ≡ k
 whole-length zero = refl

@@ -1,27 +1,23 @@
 -- The walks of find and list over any words: no walk is longer than N − 1 and reads anything but pages of 1 to N − 1, and the count that
 -- a call returns is its walk's length.
-use mathlib.Core.Bool.{Bool, true, false, _&&_, cond}
-use mathlib.Core.List.{List, [], _∷_, _++_}
+use mathlib.Core.Bool.{Bool, true, false, cond}
 use mathlib.Core.List.{List, [], _∷_, _++_, append-assoc}
 use mathlib.Core.Path.{_≡_, refl, sym, ap, _∙_}
-use Prim.Native.Nat.{ℕ, zero, suc, _+_, _-_, _*_, _<_, _≤_}
+use Prim.Native.Nat.{ℕ, zero, suc, _+_, _-_, _<_, _≤_}
 use native.Mathlib.Omega.{arith}
 use lib.Dec.{T, leb, ltb, eqb, leb→le, ltb→lt}
 use lib.ListN.{length, take, getD, length-take, length-append}
 use lib.Seq.{getD-at}
-use borrow.Author.Tests.{ne-eqb}
-use Rattle.kdb.specs.Lists.{bit, every, Each, many, same}
+use Rattle.kdb.specs.Lists.{every, Each, many, same}
 use Rattle.kdb.specs.Box.{Box, Key, within, meets}
 use Rattle.kdb.specs.Tree.{Rec}
 use Rattle.kdb.specs.Pages.{Ent, recsIn, entsIn}
 use Rattle.kdb.specs.Pool.{domains, rootAt, levelsAt, pagesIn, view, goodLength, goodHeader}
-use Rattle.kdb.specs.Walk.{Spot, Tour, still, readAt, follow, through, isPage, goodPoints, goodRegions, tour, bounded, listWalk, End, rootless, bad, absent, here, Search, ends, into, seek, findWalk}
+use Rattle.kdb.specs.Walk.{Spot, Tour, still, follow, through, isPage, goodPoints, goodRegions, tour, bounded, listWalk, End, rootless, bad, absent, here, Search, ends, into, seek, findWalk, spots, spotOf}
 use Rattle.kdb.proofs.Calls.{done}
-use Rattle.kdb.specs.Calls.{Call, format, check, place, remove, find, list, Buffers, Outcome, finding, listing, filled, lent, finite, ordered, outcome, windowOf, begins, walkOf}
-use Rattle.kdb.proofs.Lists.{and-l, and-r, and-i, bool, cases, is-true, every-append, every-take, every-many, pos}
-use Rattle.kdb.specs.Walk.{Spot, spots, Tour, still, readAt, follow, through, isPage, goodPoints, goodRegions, tour, bounded, listWalk, End, rootless, bad, absent, here, Search, ends, spotOf, into, seek, findWalk}
-use Rattle.kdb.specs.Calls.{Call, format, check, place, remove, find, list, Buffers, Outcome, unless, finding, listing, filled, lent, finite, ordered, outcome, windowOf, begins, walkOf}
-use Rattle.kdb.proofs.Lists.{and-l, and-r, and-i, bool, cases, every-append, every-take, every-many, some-many, same-eq, each-only, each-append}
+use Rattle.kdb.proofs.Pool.{header-iff}
+use Rattle.kdb.specs.Calls.{Call, format, check, place, remove, find, list, Buffers, finding, listing, filled, lent, outcome, windowOf, begins, walkOf}
+use Rattle.kdb.proofs.Lists.{and-l, and-r, and-i, cases, is-true, every-append, every-take, every-many, some-many, same-eq, each-only, each-append}
 
 -- the length of a walk into entries
 into-length : (below : ℕ → Search) (p : Key) (m : ℕ) → ((c : ℕ) → length (below c .read) ≤ m) → (es : List Ent) → length (into below p es .read) ≤ m
@@ -88,7 +84,7 @@ module _ (L : ℕ) (w : List ℕ) where
       at-page (λ (t : Search). T (every (isPage L w) (t .read))) (isPage L w j) (goodRegions L w j) _ _ _
       (λ h. and-i (isPage L w j) _ h (into-every (isPage L w) (seek L w p n) p (seek-pages p n) (entsIn (view L w j)))) (λ h. and-i (isPage L w j) true h tt) tt
 
-  list-pages : (v : Box) → T (every (isPage L w) (listWalk L w v .read))
+  pub list-pages : (v : Box) → T (every (isPage L w) (listWalk L w v .read))
   list-pages v =
       let N = pagesIn L w in
       let t = tour L w v (levelsAt w - 1) (rootAt w) in
@@ -102,15 +98,6 @@ module _ (L : ℕ) (w : List ℕ) where
       cases (λ b. T (every (isPage L w) (cond b (ends [] rootless) (seek L w p (levelsAt w - 1) (rootAt w)) .read))) (eqb (levelsAt w) 0)
       (λ _. tt) (λ _. seek-pages p (levelsAt w - 1) (rootAt w))
 
--- a good header's levels are at most N − 1
-pub few-levels : (L : ℕ) (w : List ℕ) → T (goodHeader L w) → levelsAt w ≤ pagesIn L w - 1
-unfolding goodHeader
-few-levels L w h =
-    let below = leb 1 (domains w) && leb (domains w) 4 && eqb (getD w 1 0) (pagesIn L w) && ltb (rootAt w) (pagesIn L w) in
-    let few = leb (levelsAt w) (pagesIn L w - 1) in
-    let both = eqb (bit (eqb (rootAt w) 0)) (bit (eqb (levelsAt w) 0)) in
-    leb→le (levelsAt w) (pagesIn L w - 1) (and-r below few (and-l (below && few) both (and-l (below && few && both) _ h)))
-
 -- no walk is longer than N − 1, on any words
 pub walk-bound : (w : List ℕ) (c : Call) → length (walkOf w c) ≤ pagesIn 32 w - 1
 walk-bound w (format k) = omega arith
@@ -119,7 +106,7 @@ walk-bound w (place work p l) = omega arith
 walk-bound w (remove p) = omega arith
 walk-bound w (find p) =
     cases (λ b. length (cond b (findWalk 32 w p .read) []) ≤ pagesIn 32 w - 1) (begins w (find p))
-    (λ h. omega (arith, find-length 32 w p, few-levels 32 w (and-l (goodHeader 32 w) _ (and-r (goodLength 32 w) _ h)))) (λ _. omega arith)
+    (λ h. omega (arith, find-length 32 w p, header-iff 32 w .0 (and-l (goodHeader 32 w) _ (and-r (goodLength 32 w) _ h)))) (λ _. omega arith)
 walk-bound w (list v answer) =
     cases (λ b. length (cond b (listWalk 32 w (windowOf (domains w) v) .read) []) ≤ pagesIn 32 w - 1) (begins w (list v answer))
     (λ _. list-length 32 w (windowOf (domains w) v)) (λ _. omega arith)

@@ -4,11 +4,11 @@ use mathlib.Core.Bool.{Bool, true, false, _&&_, not, cond}
 use mathlib.Core.List.{List, [], _∷_, _++_, map}
 use mathlib.Core.Option.{Option, none, some}
 use mathlib.Core.Path.{_≡_}
-use Prim.Native.Nat.{ℕ, _+_, _-_, _*_}
+use Prim.Native.Nat.{ℕ, _-_, _*_}
 use lib.Dec.{leb, ltb, eqb}
 use lib.ListN.{length, take, drop, replicate}
 use Rattle.kdb.specs.Lists.{every}
-use Rattle.kdb.specs.Box.{∞, Box, Key, sides}
+use Rattle.kdb.specs.Box.{∞, Box, sides}
 use Rattle.kdb.specs.Tree.{Rec, State}
 use Rattle.kdb.specs.Steps.{placed, removed}
 use Rattle.kdb.specs.Pages.{regionsPer, pointsPer}
@@ -134,7 +134,7 @@ listing t w answer =
     cond (t .bad) (refuses 6 (record { pool = w; work = []; answer = replicate (length answer) 0 }))
     (gives (length (t .found) ∷ length (t .read) ∷ []) (record { pool = w; work = []; answer = filled answer (t .found) }))
 
--- the refusals of each call, in the order in which they are tested
+-- the refusals of each call before its walk or its steps, in the order in which they are tested
 abbrev pub tests : List ℕ → Call → List Test
 tests w (format k) =
     (goodLength L w or 1)
@@ -186,10 +186,11 @@ core w (list v answer) = listing (listWalk L w (windowOf (domains w) v)) w answe
 unfoldable pub outcome : List ℕ → Call → Outcome
 outcome w c = judge (tests w c) (lent w c) (core w c)
 
--- the walk of a call: the pages that find or list reads, in order; a call refused before its walk begins reads nothing
+-- every test of the call holds
 abbrev pub begins : List ℕ → Call → Bool
 begins w c = every (λ t. t .holds) (tests w c)
 
+-- the walk of a call: the pages that find or list reads, in order; a call refused before its walk begins reads nothing
 abbrev pub walkOf : List ℕ → Call → List ℕ
 walkOf w (format k) = []
 walkOf w check = []

@@ -1,5 +1,6 @@
--- Demands 2 and 3 as statements, each with a field for each thing it says; `Demands` in proofs/ proves them. Demand 1 is `outcome` in
--- Calls.antt: a function of every input, with the refusals as a table.
+-- The three demands as statements, each with a field for each thing it says; `Demands` in proofs/ proves them. That every call takes every
+-- input, and leaves every word as it does, is `outcome` in Calls.antt: a function, with the refusals as a table. `Demand1` says of the
+-- refusals that the table gives by a test, a walk or a step what they mean.
 use mathlib.Core.Bool.{Bool, true, false, _&&_}
 use mathlib.Core.List.{List, [], _∷_, _++_, map}
 use mathlib.Core.Logic.{_↔_}
@@ -9,23 +10,25 @@ use Prim.Native.Nat.{ℕ, _*_, _-_, _≤_}
 use lib.Dec.{T, eqb}
 use lib.ListN.{length, take, drop, getD}
 use Rattle.kdb.specs.Lists.{only, tally, many, same}
-use Rattle.kdb.specs.Box.{Box, Key, within, inWindow, meets, sides}
+use Rattle.kdb.specs.Box.{Box, Key, within, inWindow, meets}
 use Rattle.kdb.specs.Tree.{Rec, State, recordsOf}
 use Rattle.kdb.specs.Steps.{removed}
-use Rattle.kdb.specs.Pool.{domains, levelsAt, pagesIn, numbers, Sound, ownRegion}
+use Rattle.kdb.specs.Pages.{page}
+use Rattle.kdb.specs.Pool.{domains, levelsAt, pagesIn, goodLength, numbers, Sound, ownRegion}
 use Rattle.kdb.specs.Print.{printed, stateOf}
-use Rattle.kdb.specs.Calls.{L, Call, place, remove, find, list, finite, windowOf, ordered, stepped, outcome, walkOf}
+use Rattle.kdb.specs.Walk.{listWalk}
+use Rattle.kdb.specs.Calls.{L, Call, format, check, place, remove, find, list, Outcome, finite, windowOf, ordered, stepped, outcome, walkOf}
 use Rattle.kdb.specs.History.{run, answers, live}
 
 -- the same records, each as often: equal counts for every test
 abbrev pub SameRecords : List Rec → List Rec → Type 0
 SameRecords a b = (g : Rec → Bool) → tally g a ≡ tally g b
 
--- the records with this key
+-- the record has this key
 abbrev pub keyed : Key → Rec → Bool
 keyed p r = same p (r .key)
 
--- the live records in the window
+-- those of the records that lie in the window
 abbrev pub inside : ℕ → List ℕ → List Rec → List Rec
 inside k v rs = only (λ r. inWindow (windowOf k v) (r .key)) rs
 
@@ -36,20 +39,33 @@ goodWindow k v = eqb (length v) (2 * k) && finite v && ordered (windowOf k v)
 abbrev pub goodPoint : ℕ → List ℕ → Bool
 goodPoint k p = eqb (length p) k && finite p
 
+-- the records that list's walk finds, in walk order
+abbrev pub foundBy : List ℕ → List ℕ → List Rec
+foundBy w v = map (λ x. x .rec) (listWalk L w (windowOf (domains w) v) .found)
+
 -- list on pool w finds exactly those of the records rs that lie in the window, edges counted, each once, whatever the slots
-pub record Lists (w : List ℕ) (rs : List Rec) (v slots : List ℕ) : Type 0 where
+pub record ListsExactly (w : List ℕ) (rs : List Rec) (v slots : List ℕ) : Type 0 where
   pub done : outcome w (list v slots) .number ≡ 0
-  -- the records found, in walk order
-  pub found : List Rec
-  pub exact : SameRecords found (inside (domains w) v rs)
+  pub exact : SameRecords (foundBy w v) (inside (domains w) v rs)
   pub total : getD (outcome w (list v slots) .values) 0 0 ≡ length (inside (domains w) v rs)
-  -- the first slots take their locations, as many as there are; later slots are unchanged
-  pub answer : outcome w (list v slots) .after .answer ≡ take (length slots) (map (λ r. r .loc) found) ++ drop (length found) slots
+  -- with slots enough the first take the locations in walk order and later slots are unchanged; with too few all take the first locations
+  pub enough : length (foundBy w v) ≤ length slots → outcome w (list v slots) .after .answer ≡ map (λ r. r .loc) (foundBy w v) ++ drop (length (foundBy w v)) slots
+  pub few : length slots ≤ length (foundBy w v) → outcome w (list v slots) .after .answer ≡ take (length slots) (map (λ r. r .loc) (foundBy w v))
 
 -- find on pool w answers 0 with the location of the record of rs that has the point's keys, or 8 if there is none
-pub record Finds (w : List ℕ) (rs : List Rec) (p : List ℕ) : Type 0 where
+pub record FindsExactly (w : List ℕ) (rs : List Rec) (p : List ℕ) : Type 0 where
   pub here : (l : ℕ) → 1 ≤ tally (λ r. same p (r .key) && eqb l (r .loc)) rs → (outcome w (find p) .number ≡ 0) × (getD (outcome w (find p) .values) 0 0 ≡ l)
   pub absent : tally (keyed p) rs ≡ 0 → outcome w (find p) .number ≡ 8
+
+-- Demand 1, where the table gives a refusal by a test or a walk: 6 exactly on pools that are not sound; on a sound pool 7 exactly if a
+-- record has the point's keys, remove's 8 exactly if none has, and remove returns the location of the record that goes
+pub record Demand1 (w : List ℕ) : Type 0 where
+  pub six : T (goodLength L w) → (outcome w check .number ≡ 6) ↔ (Sound L w → ⊥)
+  pub seven : (work p : List ℕ) (l : ℕ) → Sound L w → T (goodPoint (domains w) p) → length work ≡ length w
+      → (outcome w (place work p l) .number ≡ 7) ↔ (1 ≤ tally (keyed p) (recordsOf (stateOf L w)))
+  pub eight : (p : List ℕ) → Sound L w → T (goodPoint (domains w) p) → (outcome w (remove p) .number ≡ 8) ↔ (tally (keyed p) (recordsOf (stateOf L w)) ≡ 0)
+  pub gone : (p : List ℕ) (l : ℕ) → Sound L w → T (goodPoint (domains w) p) → 1 ≤ tally (λ r. same p (r .key) && eqb l (r .loc)) (recordsOf (stateOf L w))
+      → (outcome w (remove p) .number ≡ 0) × (outcome w (remove p) .values ≡ l ∷ [])
 
 -- the live records after the calls, from those in the pool before them, the calls, and their answers
 abbrev pub liveAfter : List ℕ → List Call → List Rec
@@ -60,32 +76,65 @@ pub record Demand2 (w : List ℕ) (cs : List Call) : Type 0 where
   pub sound : Sound L (run w cs)
   pub contents : SameRecords (recordsOf (stateOf L (run w cs))) (liveAfter w cs)
   pub once : (p : Key) → tally (keyed p) (liveAfter w cs) ≤ 1
-  pub lists : (v slots : List ℕ) → T (goodWindow (domains (run w cs)) v) → Lists (run w cs) (liveAfter w cs) v slots
-  pub finds : (p : List ℕ) → T (goodPoint (domains (run w cs)) p) → Finds (run w cs) (liveAfter w cs) p
+  pub lists : (v slots : List ℕ) → T (goodWindow (domains (run w cs)) v) → ListsExactly (run w cs) (liveAfter w cs) v slots
+  pub finds : (p : List ℕ) → T (goodPoint (domains (run w cs)) p) → FindsExactly (run w cs) (liveAfter w cs) p
 
--- the tree is built by Robinson's steps: an accepted place or remove takes the state to the step's state and the pool to its printed form
+-- the tree is built by Robinson's steps: a format leaves no tree, and an accepted place or remove takes the state to the step's state and the pool to its printed form
 pub record ByTheSteps (w : List ℕ) : Type 0 where
+  pub formats : (k : ℕ) → outcome w (format k) .number ≡ 0 → stateOf L (outcome w (format k) .after .pool) ≡ none
   pub places : (work p : List ℕ) (l : ℕ) → outcome w (place work p l) .number ≡ 0
       → (s : State) × (stepped w (record { key = p; loc = l }) ≡ some s) × (outcome w (place work p l) .after .pool ≡ printed L (domains w) (pagesIn L w) s) × (stateOf L (outcome w (place work p l) .after .pool) ≡ s)
   pub removes : (p : List ℕ) → outcome w (remove p) .number ≡ 0
       → (outcome w (remove p) .after .pool ≡ printed L (domains w) (pagesIn L w) (removed (stateOf L w) p)) × (stateOf L (outcome w (remove p) .after .pool) ≡ removed (stateOf L w) p)
 
--- page j's own region meets the window
-abbrev pub ownMeets : Option Box → Box → Bool
-ownMeets none v = false
-ownMeets (some r) v = meets r v
+-- the region, where there is one, shares a point with the window: by a point, and as a test
+abbrev pub Shares : Box → Option Box → Type 0
+Shares v own = (r : Box) × (own ≡ some r) × ((p : Key) × T (within r p) × T (inWindow v p))
+
+abbrev pub met : Box → Option Box → Bool
+met v none = false
+met v (some r) = meets r v
 
 -- Demand 3, on a sound pool: the walk reads exactly the pages whose own region shares a point with the window, each once, and the count
 -- returned is their number; a window of one point, and a find that succeeds, read one page a level
 pub record Demand3 (w : List ℕ) : Type 0 where
   pub reads : (v slots : List ℕ) → T (goodWindow (domains w) v) → (j : ℕ)
-      → (1 ≤ many j (walkOf w (list v slots))) ↔ ((r : Box) × (ownRegion L w j ≡ some r) × ((p : Key) × T (within r p) × T (inWindow (windowOf (domains w) v) p)))
+      → (1 ≤ many j (walkOf w (list v slots))) ↔ Shares (windowOf (domains w) v) (ownRegion L w j)
   pub once : (v slots : List ℕ) → T (goodWindow (domains w) v) → (j : ℕ) → many j (walkOf w (list v slots)) ≤ 1
   pub count : (v slots : List ℕ) → T (goodWindow (domains w) v)
-      → getD (outcome w (list v slots) .values) 1 0 ≡ tally (λ j. ownMeets (ownRegion L w j) (windowOf (domains w) v)) (numbers L w)
+      → getD (outcome w (list v slots) .values) 1 0 ≡ tally (λ j. met (windowOf (domains w) v) (ownRegion L w j)) (numbers L w)
   pub point : (p slots : List ℕ) → T (goodPoint (domains w) p) → getD (outcome w (list (p ++ p) slots) .values) 1 0 ≡ levelsAt w
-  pub find : (p : List ℕ) → outcome w (find p) .number ≡ 0 → getD (outcome w (find p) .values) 1 0 ≡ levelsAt w
+  pub levelled : (p : List ℕ) → outcome w (find p) .number ≡ 0 → getD (outcome w (find p) .values) 1 0 ≡ levelsAt w
+  -- find's walk, answered or refused, is that of the window of its point
+  pub path : (p slots : List ℕ) → T (goodPoint (domains w) p) → walkOf w (find p) ≡ walkOf w (list (p ++ p) slots)
 
--- Demand 3, on any words: no walk is longer than N − 1, refused walks included
-abbrev pub Bounded : List ℕ → Type 0
-Bounded w = (c : Call) → length (walkOf w c) ≤ pagesIn L w - 1
+-- Demand 3, on any words: no walk is longer than N − 1, refused walks included, and the count returned is the walk's length
+pub record Bounded (w : List ℕ) : Type 0 where
+  pub most : (c : Call) → length (walkOf w c) ≤ pagesIn L w - 1
+  pub found : (p : List ℕ) → outcome w (find p) .number ≡ 0 → getD (outcome w (find p) .values) 1 0 ≡ length (walkOf w (find p))
+  pub listed : (v slots : List ℕ) → outcome w (list v slots) .number ≡ 0 → getD (outcome w (list v slots) .values) 1 0 ≡ length (walkOf w (list v slots))
+
+-- two pools of one length, with the same header and the same pages of a list
+pub record Agree (M : ℕ) (w w′ : List ℕ) (read : List ℕ) : Type 0 where
+  pub long : length w′ ≡ length w
+  pub header : page M w′ 0 ≡ page M w 0
+  pub pages : (j : ℕ) → 1 ≤ many j read → page M w′ j ≡ page M w j
+
+-- the same number, the same values, the same answer buffer
+pub record Told (o o′ : Outcome) : Type 0 where
+  pub number : o′ .number ≡ o .number
+  pub values : o′ .values ≡ o .values
+  pub answer : o′ .after .answer ≡ o .after .answer
+
+-- the calls that have a walk
+abbrev pub walks : Call → Bool
+walks (format k) = false
+walks check = false
+walks (place work p l) = false
+walks (remove p) = false
+walks (find p) = true
+walks (list v answer) = true
+
+-- Locality: find and list depend on nothing but length, header and the pages on the list, refused calls included
+abbrev pub Local : List ℕ → List ℕ → Type 0
+Local w w′ = (c : Call) → T (walks c) → Agree L w w′ (walkOf w c) → (walkOf w′ c ≡ walkOf w c) × Told (outcome w c) (outcome w′ c)

@@ -1,18 +1,18 @@
 -- The frame program: document 01, "The frame program". A line's bytes give the next pool and the answer's bytes; a whole input gives the
 -- whole output. The pool has no words before the first format.
-use mathlib.Core.Bool.{Bool, true, false, _&&_, _||_, not, cond}
+use mathlib.Core.Bool.{Bool, _&&_, cond}
 use mathlib.Core.List.{List, [], _∷_, _++_}
 use mathlib.Core.Option.{Option, none, some}
 use Prim.Native.Nat.{ℕ, zero, suc, _+_, _-_, _*_, _/_, _%_}
 use lib.Dec.{leb, ltb, eqb}
-use lib.ListN.{length, take, drop, replicate, getD}
+use lib.ListN.{length, take, replicate, getD}
 use Rattle.kdb.specs.Lists.{gather, andThen}
 use Rattle.kdb.specs.Calls.{L, Call, format, place, remove, find, list, Outcome, outcome}
 
--- a hexadecimal digit of a byte, upper or lower case: 0 to 9, A to F, a to f
 abbrev pub between : ℕ → ℕ → ℕ → Bool
 between a b x = leb a x && leb x b
 
+-- a hexadecimal digit of a byte, upper or lower case: 0 to 9, A to F, a to f
 abbrev pub digit : ℕ → Option ℕ
 digit x =
     cond (between 48 57 x) (some (x - 48))
@@ -34,10 +34,10 @@ wordsOf (a ∷ b ∷ []) = none
 wordsOf (a ∷ b ∷ c ∷ []) = none
 wordsOf (a ∷ b ∷ c ∷ d ∷ bs) = andThen (wordsOf bs) (λ ws. some ((16777216 * a + 65536 * b + 256 * c + d) ∷ ws))
 
--- a number of n digits, upper case
 abbrev pub digitOf : ℕ → ℕ
 digitOf v = cond (ltb v 10) (v + 48) (v + 55)
 
+-- a number of n digits, upper case
 abbrev pub hex : ℕ → ℕ → List ℕ
 hex zero v = []
 hex (suc n) v = hex n (v / 16) ++ (digitOf (v % 16) ∷ [])
@@ -88,10 +88,11 @@ framed (some (b ∷ bs)) = frameOf b bs
 abbrev pub parse : List ℕ → Frame
 parse line = cond (leb (length line) 128) (framed (bytesOf line)) unknown
 
--- the number as 2 digits, then each value as 8; a list is followed by the locations that the slots took
+-- the locations that a list's slots took; no other call has an answer buffer
 abbrev pub found : Outcome → List ℕ
 found o = take (getD (o .values) 0 0) (o .after .answer)
 
+-- the number as 2 digits, then each value as 8, then a list's locations
 abbrev pub answerText : Outcome → List ℕ
 answerText o = hex 2 (o .number) ++ (gather (hex 8) (o .values) ++ (gather (hex 8) (found o) ++ (10 ∷ [])))
 
@@ -120,11 +121,12 @@ unfoldable pub reply : List ℕ → List ℕ → Reply
 reply w [] = record { pool = w; text = [] }
 reply w (a ∷ line) = obey w (parse (a ∷ line))
 
--- the input's lines: a line feed ends a line, and the last line may lack it
+-- a byte before the first line
 abbrev pub lineThen : List (List ℕ) → ℕ → List (List ℕ)
 lineThen [] a = (a ∷ []) ∷ []
 lineThen (line ∷ rest) a = (a ∷ line) ∷ rest
 
+-- the input's lines: a line feed ends a line, and the last line may lack it
 abbrev pub lines : List ℕ → List (List ℕ)
 lines [] = []
 lines (a ∷ input) = cond (eqb a 10) ([] ∷ lines input) (lineThen (lines input) a)

@@ -1,4 +1,4 @@
--- Lists, as every definition below uses them and the library does not have them.
+-- Lists, in the form that every definition below uses.
 use mathlib.Core.Bool.{Bool, true, false, _&&_, _||_, cond}
 use mathlib.Core.List.{List, [], _∷_, _++_}
 use mathlib.Core.Option.{Option, none, some}

@@ -1,6 +1,6 @@
 -- A pool's words: its header, its pages, and soundness, document 01's paragraph "A pool is sound when ..", with a field for each sentence,
 -- said over the words and the pages.
-use mathlib.Core.Bool.{Bool, true, false, _&&_, cond}
+use mathlib.Core.Bool.{Bool, _&&_, cond}
 use mathlib.Core.List.{List, [], _∷_, map}
 use mathlib.Core.Option.{Option, none, some}
 use mathlib.Core.Path.{_≡_}
@@ -84,7 +84,7 @@ module _ (L : ℕ) where
     pub filled : (j : ℕ) → T (isRegions (view w j)) → 1 ≤ length (entsIn (view w j))
     -- every path has the header's number of levels
     pub paths : (levelsAt w ≡ 0 → ⊥) → Paths w (levelsAt w - 1) (rootAt w)
-    -- the regions in a page are disjoint and not empty
+    -- the regions in a page are disjoint and not empty (so no lower end is ∞)
     pub apart : (j : ℕ) → Apart (boxesIn (view w j))
     pub solids : (j : ℕ) → T (every solid (boxesIn (view w j)))
     -- the root's regions together are the whole space

@@ -1,6 +1,6 @@
 -- The printed form of a state, and the state that a pool's words say. A pool is sound exactly if it is the printed form of a well-formed
 -- state; `sound` tests that, and the theorem `Pool.sound-iff` ties it to the sentences of document 01.
-use mathlib.Core.Bool.{Bool, true, false, _&&_, cond}
+use mathlib.Core.Bool.{Bool, _&&_, cond}
 use mathlib.Core.List.{List, [], _∷_, _++_}
 use mathlib.Core.Option.{none, some}
 use Prim.Native.Nat.{ℕ, zero, suc, _-_}

@@ -1,10 +1,10 @@
 -- Placing and removing on the tree: Robinson's I1 to I6 and S1 to S3 with document 01's choices. `free` is always the list of the free
 -- page numbers, lowest first; claiming a page takes its head, and a step for which none is left fails.
-use mathlib.Core.Bool.{Bool, true, false, cond}
+use mathlib.Core.Bool.{true, false}
 use mathlib.Core.List.{List, [], _∷_, _++_}
 use mathlib.Core.Option.{Option, none, some}
-use Prim.Native.Nat.{ℕ, zero, suc, _+_, _-_, _%_}
-use lib.Dec.{leb, ltb, eqb}
+use Prim.Native.Nat.{ℕ, suc, _+_, _-_, _%_}
+use lib.Dec.{leb, eqb}
 use lib.ListN.{length}
 use Rattle.kdb.specs.Lists.{only, many, upFrom, same, andThen}
 use Rattle.kdb.specs.Box.{Box, Key, whole, within, leftPart, rightPart}
@@ -56,7 +56,8 @@ module _ (k d x : ℕ) where
     splitF fnil free = some (record { lt = fnil; rt = fnil; free = free })
     splitF (fcons b t f) free = deal (lies d x b) b t (split t (afterForced k (dom t)) free) (splitF f) free
 
--- what a page becomes: nothing, for want of a page; one page; two pages, cut along a key of a domain
+-- what a page becomes: nothing, where no page is free (on a well-formed state never for another reason: no cut, no entry that holds the
+-- point); one page; two pages, cut along a key of a domain
 pub data Up : Type 0 where
   failed : Up
   fits : Tree → List ℕ → Up
@@ -131,7 +132,7 @@ abbrev pub first : Rec → List ℕ → Option State
 first q [] = none
 first q (r ∷ free) = some (some (leaf r 0 (q ∷ [])))
 
--- the state after a record is placed, none where a page is wanting
+-- the state after a record is placed; none where a page is wanting, on a well-formed state exactly then
 abbrev pub placed : ℕ → ℕ → ℕ → ℕ → State → Rec → Option State
 placed k R P N none q = first q (freeOf N [])
 placed k R P N (some t) q = topped k (grow k R P t q (freeOf N (pagesOf (some t))))

@@ -2,13 +2,13 @@
 -- next entry." A walk is the list of the pages read, in order, up to where it stops, with how it ended and what it found.
 use mathlib.Core.Bool.{Bool, true, false, _&&_, cond}
 use mathlib.Core.List.{List, [], _∷_, _++_}
-use Prim.Native.Nat.{ℕ, zero, suc, _-_, _<_}
+use Prim.Native.Nat.{ℕ, zero, suc, _-_}
 use lib.Dec.{leb, ltb, eqb}
 use lib.ListN.{length, take}
 use Rattle.kdb.specs.Lists.{only, same}
 use Rattle.kdb.specs.Box.{Box, Key, within, inWindow, meets}
 use Rattle.kdb.specs.Tree.{Rec}
-use Rattle.kdb.specs.Pages.{Ent, Page, blank, points, regions, regionsPer, pointsPer, recsIn, entsIn, isPoints, isRegions}
+use Rattle.kdb.specs.Pages.{Ent, regionsPer, pointsPer, recsIn, entsIn, isPoints, isRegions}
 use Rattle.kdb.specs.Pool.{domains, rootAt, levelsAt, pagesIn, view}
 
 -- a record with its page and its slot, counted from 0
@@ -22,7 +22,7 @@ abbrev pub spots : ℕ → ℕ → List Rec → List Spot
 spots j i [] = []
 spots j i (r ∷ rs) = record { page = j; slot = i; rec = r } ∷ spots j (suc i) rs
 
--- the pages read, whether the walk met a bad page, and the records found before that
+-- the pages read, whether the walk met a bad page or its bound, and the records found, which count only where it did not
 pub record Tour : Type 0 where
   pub read : List ℕ
   pub bad : Bool

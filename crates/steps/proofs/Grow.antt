@@ -58,7 +58,7 @@ pub record Based (L : ℕ) (w1 : List ℕ) (t1 : Tree) (free1 w : List ℕ) (t :
   pub long : length w1 ≡ length w
 
 -- the entries of a page, as words of the pool
-page-words : (L : ℕ) → 4 ≤ L → (w : List ℕ) (c kd m e : ℕ) (ws : List ℕ) → page L w c ≡ layout L kd m e ws → length ws ≤ L - 4
+pub page-words : (L : ℕ) → 4 ≤ L → (w : List ℕ) (c kd m e : ℕ) (ws : List ℕ) → page L w c ≡ layout L kd m e ws → length ws ≤ L - 4
     → drop (L * c + 4) w ≡ ws ++ (pad (L - 4 - length ws) [] ++ drop L (drop (L * c) w))
 page-words L big w c kd m e ws h l =
     let z = drop L (drop (L * c) w) in

@@ -8,3 +8,4 @@ pub mod Grow
 pub mod Stood
 pub mod Place
 pub mod Remove
+pub mod Promise

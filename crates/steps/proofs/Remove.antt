@@ -1,15 +1,16 @@
 -- Removing in place: `remove-is`, for every pool in which a state stands and every search that ended at the point's record, gives the printed
 -- form of the state without it.
 use mathlib.Core.Bool.{Bool, true, false, cond}
-use mathlib.Core.List.{List, [], _∷_, _++_}
+use mathlib.Core.List.{List, [], _∷_, _++_, append-assoc}
 use mathlib.Core.Option.{none, some}
 use mathlib.Core.Path.{_≡_, refl, sym, ap, ap₂, _∙_, subst}
 use Prim.Native.Nat.{ℕ, zero, suc, _+_, _*_, _-_, _≤_}
 use native.Mathlib.Omega.{arith}
+use native.Mathlib.Numerals.{add-one}
 use native.Mathlib.Nat.{mul-zero, zero-add}
 use lib.Dec.{eqb, eqb→eq}
-use lib.ListN.{length, take, drop, set, length-append}
-use lib.Seq.{sets, take-at, drop-at, drop-append-add}
+use lib.ListN.{length, take, drop, getD, set, replicate, length-append, length-set, length-take, length-drop}
+use lib.Seq.{sets, take-at, drop-at, drop-drop, drop-cons, drop-set-lt, drop-append-add}
 use borrow.Author.Tests.{ne-eqb}
 use Rattle.kdb.specs.Lists.{bit, many, gather, pad, same}
 use Rattle.kdb.specs.Box.{Key, whole, within}
@@ -20,47 +21,64 @@ use Rattle.kdb.specs.Pool.{domains, countAt, pagesIn, view}
 use Rattle.kdb.specs.Walk.{Spot, spots, isPage, goodPoints, goodRegions, rootless, bad, here, Search, ends, after, spotOf, into, seek, findWalk}
 use Rattle.kdb.specs.Shape.{WellFormed}
 use Rattle.kdb.specs.Print.{ents, header, printed}
-use Rattle.kdb.proofs.Lists.{bool, is-true, is-false, choice-true, choice-false, no-bit, self, append-each, gather-append, many-append, length-pad, pad-tail, pad-gap}
+use Rattle.kdb.proofs.Lists.{bool, is-true, is-false, choice-true, choice-false, no-bit, self, append-each, gather-append, many-append, length-pad, pad-nil, sets-append, pad-gap}
 use Rattle.kdb.proofs.Pages.{rec-length, points-fit}
 use Rattle.kdb.proofs.Views.{Seen, SeenF, whole-under}
 use Rattle.kdb.proofs.Print.{some-levels, header-words, stands-seen}
 use Rattle.kdb.proofs.Stands.{Stands}
 use Rattle.steps.specs.Machine.{word}
-use Rattle.steps.specs.Remove.{closeIn, removeIn}
-use Rattle.steps.proofs.Machine.{Wrote, wrote, layout-sets}
+use Rattle.steps.specs.Remove.{downIn, closeIn, removeIn}
+use Rattle.steps.proofs.Machine.{Wrote, wrote, length-layout, layout-sets}
 use Rattle.steps.proofs.Entry.{ent}
 use Rattle.steps.proofs.Held.{Holds, HoldsF, frame, frameF, Keys, Fits, FitsF, records-length}
 use Rattle.steps.proofs.Split.{word-of}
+use Rattle.steps.proofs.Grow.{page-words}
 use Rattle.steps.proofs.Stood.{shaped-fits, stood-head, stood-length, stood-blank, stood-held, stood-back}
+
+-- words moved down are the words that stood above
+down : (wd n : ℕ) (w : List ℕ) (a : ℕ) → a + wd + n ≤ length w → downIn wd n w a ≡ sets w a (take n (drop (a + wd) w))
+unfolding downIn
+down wd zero w a h = refl
+down wd (suc n) w a h =
+    let v = getD w (a + wd) 0 in
+    let e : a + 1 + wd ≡ suc (a + wd) = omega arith in
+    down wd n (set w a v) (a + 1) (omega (arith, length-set w a v))
+    ∙ (ap (λ i. sets (set w a v) i (take n (drop (a + 1 + wd) (set w a v)))) (add-one a)
+    ∙ (ap (λ l. sets (set w a v) (suc a) (take n l)) (drop-set-lt (a + 1 + wd) w a v (omega arith) ∙ ap (λ i. drop i w) e)
+    ∙ ap (λ l. sets w a (take (suc n) l)) (sym (drop-cons w (a + wd) 0 (omega arith)))))
 
 -- the gap that an entry leaves is closed
 closed : (L wd : ℕ) → 4 ≤ L → (w : List ℕ) (c kd m e : ℕ) (xs es ys : List ℕ) (a : ℕ) → page L w c ≡ layout L kd (suc m) e (xs ++ (es ++ ys)) → length es ≡ wd → length (xs ++ (es ++ ys)) ≡ suc m * wd
-    → 4 + suc m * wd ≤ L → a ≡ 4 + length xs → Wrote L w c (layout L kd m e (xs ++ ys)) (closeIn L wd w c a)
+    → 4 + suc m * wd ≤ L → a ≡ L * c + (4 + length xs) → Wrote L w c (layout L kd m e (xs ++ ys)) (closeIn L wd w c a)
 unfolding closeIn
 closed L wd big w c kd m e xs es ys a h ne n room at =
     let ws = xs ++ (es ++ ys) in
-    let four : (i : ℕ) → 4 + i ≡ suc (suc (suc (suc i))) = λ i. omega arith in
     let e1 : word L w c 1 ≡ suc m = word-of L big w c kd (suc m) e ws h 1 (omega arith) in
-    let used : take (4 + suc m * wd) (layout L kd (suc m) e ws) ≡ kd ∷ suc m ∷ e ∷ 0 ∷ ws =
-    ap (λ i. take i (layout L kd (suc m) e ws)) (four (suc m * wd))
-    ∙ ap (λ v. kd ∷ suc m ∷ e ∷ 0 ∷ v) (ap (take (suc m * wd)) (pad-tail (L - 4) ws (omega (arith, n))) ∙ take-at ws (pad (L - 4 - length ws) []) (suc m * wd) n) in
-    let q : a + wd ≡ suc (suc (suc (suc (length xs + wd)))) = omega (arith, at) in
-    let src : drop (a + wd) (take (4 + word L w c 1 * wd) (page L w c)) ≡ ys =
-    ap₂ (λ i v. drop (a + wd) (take (4 + i * wd) v)) e1 h ∙ (ap (drop (a + wd)) used ∙ (ap (λ i. drop i (kd ∷ suc m ∷ e ∷ 0 ∷ ws)) q ∙ (drop-append-add xs (es ++ ys) wd ∙ drop-at es ys wd ne))) in
-    let us = ys ++ pad wd [] in
     let len : length xs + (length es + length ys) ≡ suc m * wd = sym (length-append xs (es ++ ys) ∙ ap (λ i. length xs + i) (length-append es ys)) ∙ n in
+    let whole-page : length (page L w c) ≡ L = ap length h ∙ length-layout L kd (suc m) e ws big in
+    let ends : L * c + L ≤ length w = omega (arith, length-take L (drop (L * c) w), length-drop (L * c) w) in
+    let moved : L * c + 4 + suc m * wd - (a + wd) ≡ length ys = omega arith in
+    let zs = pad (L - 4 - length ws) [] ++ drop L (drop (L * c) w) in
+    let q : a + wd ≡ L * c + 4 + (length xs + wd) = omega arith in
+    let above : drop (a + wd) w ≡ ys ++ zs =
+    ap (λ i. drop i w) q ∙ (sym (drop-drop (length xs + wd) (L * c + 4) w)
+    ∙ (ap (drop (length xs + wd)) (page-words L big w c kd (suc m) e ws h (omega (arith, n)) ∙ append-assoc xs (es ++ ys) zs)
+    ∙ (drop-append-add xs ((es ++ ys) ++ zs) wd ∙ (ap (drop wd) (append-assoc es ys zs) ∙ drop-at es (ys ++ zs) wd ne)))) in
+    let us = ys ++ pad wd [] in
     let nu : length us ≡ length ys + wd = length-append ys (pad wd []) ∙ ap (λ i. length ys + i) (length-pad wd []) in
-    let z : sets (layout L kd (suc m) e ws) a us ≡ layout L kd (suc m) e (xs ++ ys) =
-    ap (λ i. sets (layout L kd (suc m) e ws) i us) at
-    ∙ layout-sets L kd (suc m) e ws us (xs ++ ys) (length xs)
-    (subst (λ i. sets (pad (L - 4) ws) (length xs) (ys ++ pad i []) ≡ pad (L - 4) (xs ++ ys)) ne (pad-gap (L - 4) xs es ys (omega (arith, len)))) in
+    let all : sets (downIn wd (length ys) w a) (a + length ys) (replicate wd 0) ≡ sets w (L * c + (4 + length xs)) us =
+    ap₂ (λ v z. sets v (a + length ys) z) (down wd (length ys) w a (omega arith) ∙ ap (sets w a) (ap (take (length ys)) above ∙ take-at ys zs (length ys) refl)) (sym (pad-nil wd))
+    ∙ (sets-append w a ys (pad wd []) ∙ ap (λ i. sets w i us) at) in
+    let z : sets (layout L kd (suc m) e ws) (4 + length xs) us ≡ layout L kd (suc m) e (xs ++ ys) =
+    layout-sets L kd (suc m) e ws us (xs ++ ys) (length xs)
+    (subst (λ i. sets (pad (L - 4) ws) (length xs) (ys ++ pad i []) ≡ pad (L - 4) (xs ++ ys)) ne (pad-gap (L - 4) xs es ys (omega arith))) in
     let less : suc m - 1 ≡ m = omega arith in
-    let w1 = sets w (L * c + a) us in
-    let o1 = wrote L w c a us (omega (arith, at, nu, len, ne)) in
+    let w1 = sets w (L * c + (4 + length xs)) us in
+    let o1 = wrote L w c (4 + length xs) us (omega (arith, nu, len, ne)) in
     let o2 = wrote L w1 c 1 (m ∷ []) (omega arith) in
-    rw (src, e1, less)
+    rw (e1, less, moved, all)
     (record {
-      here = o2 .here ∙ ap (λ p. set p 1 m) (o1 .here ∙ (ap (λ p. sets p a us) h ∙ z));
+      here = o2 .here ∙ ap (λ p. set p 1 m) (o1 .here ∙ (ap (λ p. sets p (4 + length xs) us) h ∙ z));
       there = λ i t. o2 .there i t ∙ o1 .there i t;
       long = o2 .long ∙ o1 .long;
     })
@@ -238,7 +256,7 @@ module _ (L k R P : ℕ) (w : List ℕ) (p : Key) (sp : Spot) where
 -- the record's page, and then the header's count
 module _ (L k N : ℕ) (t : Tree) (w : List ℕ) (big : 5 ≤ L) (wf : WellFormed L k N (some t)) (is : w ≡ printed L k N (some t)) (p : Key) (sp : Spot) (wf′ : WellFormed L k N (some (remove t p))) where
   remove-tree : Gone L k (regionsPer L k) (pointsPer L k) w p sp t → (count : ℕ) → count ≡ length (records t)
-      → set (closeIn L (k + 1) w (sp .page) (4 + sp .slot * (k + 1))) 4 (count - 1) ≡ printed L k N (some (remove t p))
+      → set (closeIn L (k + 1) w (sp .page) (L * sp .page + 4 + sp .slot * (k + 1))) 4 (count - 1) ≡ printed L k N (some (remove t p))
   remove-tree o count n =
       let wd = k + 1 in
       let s = o .slot in
@@ -254,10 +272,11 @@ module _ (L k N : ℕ) (t : Tree) (w : List ℕ) (big : 5 ≤ L) (wf : WellForme
       let fl2 : gather wordsR (s .before ++ s .behind) ≡ xs ++ ys = gather-append wordsR (s .before) (s .behind) in
       let n1 : length all ≡ suc m = length-append (s .before) (s .it ∷ s .behind) ∙ omega (arith, length-append (s .before) (s .behind)) in
       let room : 4 + suc m * wd ≤ L = subst (λ i. 4 + i * wd ≤ L) n1 (omega (arith, points-fit L k (length all) (s .room))) in
-      let a-is : 4 + sp .slot * wd ≡ 4 + length xs = ap (λ i. 4 + i * wd) (s .at) ∙ ap (λ i. 4 + i) (sym (records-length k (s .before) (ks .0))) in
-      let w1 = closeIn L wd w c (4 + sp .slot * wd) in
-      let o1 = closed L wd (omega arith) w c 2 m e xs es ys (4 + sp .slot * wd) (s .words ∙ ap₂ (λ i v. layout L 2 i e v) n1 fl) (rec-length k (s .it) (ks .1 .0))
-      (ap length (sym fl) ∙ (records-length k all (s .keys) ∙ ap (λ i. i * wd) n1)) room a-is in
+      let slots : sp .slot * wd ≡ length xs = ap (λ i. i * wd) (s .at) ∙ sym (records-length k (s .before) (ks .0)) in
+      let a = L * c + 4 + sp .slot * wd in
+      let w1 = closeIn L wd w c a in
+      let o1 = closed L wd (omega arith) w c 2 m e xs es ys a (s .words ∙ ap₂ (λ i v. layout L 2 i e v) n1 fl) (rec-length k (s .it) (ks .1 .0))
+      (ap length (sym fl) ∙ (records-length k all (s .keys) ∙ ap (λ i. i * wd) n1)) room (omega arith) in
       let here1 : page L w1 c ≡ printPage L (points e (s .before ++ s .behind)) = o1 .here ∙ ap (layout L 2 m e) (sym fl2) in
       let held1 : Holds L (page L w1) (remove t p) = o .held (page L w1) (here1, o1 .there) in
       let z : L * 0 + 4 ≡ 4 = omega (arith, mul-zero L) in

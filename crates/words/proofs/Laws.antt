@@ -1,20 +1,20 @@
 -- The length of a pool, its header, and stores of a whole buffer, as code finds them.
 use mathlib.Core.Bool.{Bool, true, false, _&&_, _||_, not, cond}
-use mathlib.Core.List.{List, [], _∷_, _++_, append-nil}
+use mathlib.Core.List.{List, [], _∷_, _++_}
 use mathlib.Core.Path.{_≡_, refl, sym, ap, _∙_}
 use Prim.Native.Nat.{ℕ, zero, suc, _+_, _-_, _*_, _/_, _%_, _<_, _≤_}
 use native.Mathlib.Omega.{arith}
 use native.Mathlib.Nat.{zero-add, div-le-self}
 use lib.Dec.{eqb, leb, ltb}
-use lib.ListN.{length, take, drop, getD, replicate, length-replicate, drop-of-length-le}
-use lib.Seq.{sets, sets-eq, take-length}
+use lib.ListN.{length, take, drop, getD, replicate, length-replicate}
+use lib.Seq.{sets, take-length}
 use borrow.Author.Tests.{eqb-true, leb-true}
 use Rattle.kdb.specs.Lists.{bit, every}
 use Rattle.kdb.specs.Pages.{page}
 use Rattle.kdb.specs.Pool.{pagesIn, goodLength, goodHeader}
 use Rattle.kdb.specs.Calls.{L, finite}
 use Rattle.kdb.specs.Box.{∞}
-use Rattle.kdb.proofs.Lists.{and-t, is-true}
+use Rattle.kdb.proofs.Lists.{and-t, is-true, sets-whole}
 use Rattle.kdb.proofs.Words.{keysBy, keys-by, page-rest}
 use Rattle.words.specs.Loops.{allBy}
 use Rattle.words.specs.Words.{pageCount, Paged, allZero, zeroAt, capacityOf}
@@ -64,11 +64,7 @@ all-finite x =
     every-by (λ v. ltb v ∞) (length x) (λ i. getD x i 0) 0 true
     ∙ ap finite (keys-by (length x) 0 0 x (λ i. getD x i 0) (λ d. ap (λ (i : ℕ). getD x i 0) (sym (zero-add d))) (omega arith) ∙ take-length x)
 
--- a whole buffer stored over another of its length
-pub sets-whole : (x v : List ℕ) → length v ≡ length x → sets x 0 v ≡ v
-sets-whole x v e =
-    sets-eq v x 0 (omega arith) ∙ ap (λ (l : List ℕ). v ++ l) (drop-of-length-le x {i = 0 + length v} (omega arith)) ∙ append-nil v
-
+-- a buffer cleared whole
 pub cleared : (x : List ℕ) → sets x 0 (replicate (length x) 0) ≡ replicate (length x) 0
 cleared x = sets-whole x (replicate (length x) 0) (length-replicate (length x) 0)
 

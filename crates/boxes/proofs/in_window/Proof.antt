@@ -1,3 +1,4 @@
+-- `boxes::in_window` meets its contract: the loop over the domains is `inWindow`.
 use Rattle.boxes.proofs.Tests as tests
 use Rattle.boxes.specs.Tests.{seenAt}
 use Rattle.words.specs.Words.{keysOf}
@@ -12,10 +13,6 @@ use borrow.Author.Needs.{needs}
 use native.Mathlib.Omega.{arith}
 use Rattle.boxes.proofs.in_window.Statement.{statement}
 use Rattle.boxes.proofs.in_window.Tie as tie
-use Rattle.boxes.proofs.in_window.Reads as reads
-use Rattle.boxes.proofs.in_window.Lts as lts
-use Rattle.words.proofs.get.Reads as get-reads
-use Rattle.words.proofs.point_key.Reads as point-key-reads
 
 abbrev Inv-loop : tie.InvT-loop
 Inv-loop pool k j slot window ok₀ d₀ ok d = (d ≤ k) × (allBy (k - d) (seenAt pool k j slot window) 1 d ok ≡ inWindow (windowOf k window) (keysOf k pool j slot))

@@ -1,3 +1,4 @@
+-- `boxes::meets_window` meets its contract: the loop over the domains is `meets`.
 use Rattle.boxes.proofs.Tests as tests
 use Rattle.boxes.specs.Tests.{meetsAt}
 use Rattle.words.specs.Words.{regionAt}
@@ -12,12 +13,6 @@ use borrow.Author.Needs.{needs}
 use native.Mathlib.Omega.{arith}
 use Rattle.boxes.proofs.meets_window.Statement.{statement}
 use Rattle.boxes.proofs.meets_window.Tie as tie
-use Rattle.boxes.proofs.meets_window.Reads as reads
-use Rattle.boxes.proofs.meets_window.Lts as lts
-use Rattle.boxes.proofs.larger.Reads as larger-reads
-use Rattle.words.proofs.get.Reads as get-reads
-use Rattle.words.proofs.lower_end.Reads as lower-end-reads
-use Rattle.words.proofs.upper_end.Reads as upper-end-reads
 
 abbrev Inv-loop : tie.InvT-loop
 Inv-loop pool k at window ok₀ d₀ ok d = (d ≤ k) × (allBy (k - d) (meetsAt pool k at window) 1 d ok ≡ meets (regionAt k pool at) (windowOf k window))

@@ -1,3 +1,4 @@
+-- `boxes::ordered_window` meets its contract: the loop over the domains is `ordered`.
 use Rattle.boxes.proofs.Tests as tests
 use Rattle.boxes.specs.Tests.{orderedAt}
 use Rattle.kdb.specs.Calls.{windowOf, ordered}
@@ -10,9 +11,6 @@ use borrow.Author.Needs.{needs}
 use native.Mathlib.Omega.{arith}
 use Rattle.boxes.proofs.ordered_window.Statement.{statement}
 use Rattle.boxes.proofs.ordered_window.Tie as tie
-use Rattle.boxes.proofs.ordered_window.Reads as reads
-use Rattle.boxes.proofs.ordered_window.Lts as lts
-use Rattle.words.proofs.get.Reads as get-reads
 
 abbrev Inv-loop : tie.InvT-loop
 Inv-loop window k ok₀ d₀ ok d = (d ≤ k) × (allBy (k - d) (orderedAt window k) 1 d ok ≡ ordered (windowOf k window))

@@ -1,3 +1,4 @@
+-- `boxes::point_in` meets its contract: the loop over the domains is `within`.
 use Rattle.boxes.proofs.Tests as tests
 use Rattle.boxes.specs.Tests.{holdsAt}
 use Rattle.words.specs.Words.{regionAt}
@@ -11,11 +12,6 @@ use borrow.Author.Needs.{needs}
 use native.Mathlib.Omega.{arith}
 use Rattle.boxes.proofs.point_in.Statement.{statement}
 use Rattle.boxes.proofs.point_in.Tie as tie
-use Rattle.boxes.proofs.point_in.Reads as reads
-use Rattle.boxes.proofs.point_in.Lts as lts
-use Rattle.words.proofs.get.Reads as get-reads
-use Rattle.words.proofs.lower_end.Reads as lower-end-reads
-use Rattle.words.proofs.upper_end.Reads as upper-end-reads
 
 abbrev Inv-loop : tie.InvT-loop
 Inv-loop pool k at point ok₀ d₀ ok d = (d ≤ k) × (allBy (k - d) (holdsAt pool k at point) 1 d ok ≡ within (regionAt k pool at) point)

@@ -1,3 +1,4 @@
+-- `boxes::same_keys` meets its contract: the loop over the domains is `same`.
 use Rattle.boxes.proofs.Tests as tests
 use Rattle.boxes.specs.Tests.{sameAt}
 use Rattle.words.specs.Words.{keysOf}
@@ -11,10 +12,6 @@ use borrow.Author.Needs.{needs}
 use native.Mathlib.Omega.{arith}
 use Rattle.boxes.proofs.same_keys.Statement.{statement}
 use Rattle.boxes.proofs.same_keys.Tie as tie
-use Rattle.boxes.proofs.same_keys.Reads as reads
-use Rattle.boxes.proofs.same_keys.Lts as lts
-use Rattle.words.proofs.get.Reads as get-reads
-use Rattle.words.proofs.point_key.Reads as point-key-reads
 
 abbrev Inv-loop : tie.InvT-loop
 Inv-loop pool k j slot point ok₀ d₀ ok d = (d ≤ k) × (allBy (k - d) (sameAt pool k j slot point) 1 d ok ≡ same point (keysOf k pool j slot))

@@ -1,3 +1,4 @@
+-- `words::all_finite` meets its contract: what is left to test, with the flag, gives what the whole gives.
 use Rattle.words.proofs.Laws as laws
 use Rattle.words.proofs.Loops.{all-end, all-next}
 use Rattle.words.specs.Loops.{allBy}
@@ -6,16 +7,12 @@ use Rattle.kdb.specs.Box.{∞}
 use lib.ListN.{length, getD}
 use lib.Dec.{ltb}
 use native.Mathlib.Nat.{sub-zero}
-use mathlib.Core.Bool.{true}
-use mathlib.Core.Path.{_≡_, _∙_}
+use mathlib.Core.Path.{_≡_}
 use Prim.Native.Nat.{_≤_, _-_}
 use borrow.Author.Needs.{needs}
 use native.Mathlib.Omega.{arith}
 use Rattle.words.proofs.all_finite.Statement.{statement}
 use Rattle.words.proofs.all_finite.Tie as tie
-use Rattle.words.proofs.all_finite.Reads as reads
-use Rattle.words.proofs.all_finite.Lts as lts
-use Rattle.words.proofs.get.Reads as get-reads
 
 abbrev Inv-loop : tie.InvT-loop
 Inv-loop x ok₀ i₀ ok i = (i ≤ length x) × (allBy (length x - i) (λ n d. ltb (getD x d 0) ∞) 1 i ok ≡ finite x)

@@ -1,18 +1,10 @@
+-- `words::capacity` meets its contract: the table's rule, at the entry that is read.
 use Rattle.words.proofs.Laws.{capacities, capacity-few}
-use Rattle.words.proofs.Table.{at₂}
-use Rattle.words.specs.Words.{capacityOf}
-use lib.ListN.{getD}
-use lib.Dec.{eqb, eqb→eq}
-use Prim.Native.Nat.{ℕ, _+_, _-_, _<_, _≤_}
-use mathlib.Core.Path.{_≡_, ap, _∙_}
-use mathlib.Core.Bool.{Bool}
-use mathlib.Core.List.{List, [], _∷_}
+use Prim.Native.Nat.{_-_}
 use borrow.Author.Needs.{needs}
 use native.Mathlib.Omega.{arith}
 use Rattle.words.proofs.capacity.Statement.{statement}
 use Rattle.words.proofs.capacity.Tie as tie
-use Rattle.words.proofs.capacity.Reads as reads
-use Rattle.words.proofs.capacity.Lts as lts
 
 sub-result : tie.Need-sub-result
 sub-result c = search needs

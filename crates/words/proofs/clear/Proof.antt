@@ -1,15 +1,12 @@
+-- `words::clear` meets its contract: what is left to store gives what the whole gives.
 use Rattle.words.proofs.Loops.{clear-end, clear-next}
 use lib.Seq.{sets}
 use lib.ListN.{length, replicate}
 use mathlib.Core.Path.{_≡_, refl, _∙_}
 use Prim.Native.Nat.{_-_}
 use borrow.Author.Needs.{needs}
-use native.Mathlib.Omega.{arith}
 use Rattle.words.proofs.clear.Statement.{statement}
 use Rattle.words.proofs.clear.Tie as tie
-use Rattle.words.proofs.clear.Reads as reads
-use Rattle.words.proofs.clear.Lts as lts
-use Rattle.words.proofs.put.Reads as put-reads
 
 abbrev Inv-loop : tie.InvT-loop
 Inv-loop x₀ from to i₀ x i = (length x ≡ length x₀) × (sets x i (replicate (to - i) 0) ≡ sets x₀ from (replicate (to - from) 0))

@@ -1,16 +1,12 @@
+-- `words::copy` meets its contract: what is left to store gives what the whole gives.
 use Rattle.words.proofs.Loops.{copy-end, copy-next}
 use lib.Seq.{sets}
 use lib.ListN.{length, drop}
 use mathlib.Core.Path.{_≡_, refl, _∙_}
 use Prim.Native.Nat.{_-_}
 use borrow.Author.Needs.{needs}
-use native.Mathlib.Omega.{arith}
 use Rattle.words.proofs.copy.Statement.{statement}
 use Rattle.words.proofs.copy.Tie as tie
-use Rattle.words.proofs.copy.Reads as reads
-use Rattle.words.proofs.copy.Lts as lts
-use Rattle.words.proofs.get.Reads as get-reads
-use Rattle.words.proofs.put.Reads as put-reads
 
 abbrev Inv-loop : tie.InvT-loop
 Inv-loop to₀ from i₀ to i = (length to ≡ length to₀) × (sets to i (drop i from) ≡ sets to₀ 0 from)

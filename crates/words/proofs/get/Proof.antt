@@ -1,4 +1,4 @@
--- `words::get` meets its contract. Assumes nothing.
+-- `words::get` meets its contract: a word past the end is 0.
 use borrow.Author.Needs.{needs}
 use native.Mathlib.Omega.{arith}
 use mathlib.Core.Path.{refl, sym}

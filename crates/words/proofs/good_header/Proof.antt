@@ -1,14 +1,10 @@
+-- `words::good_header` meets its contract: the tests of the header's words are the definition's.
 use Rattle.words.proofs.Laws.{pages, both, zero-rest}
 use Rattle.kdb.specs.Pool.{goodHeader}
-use mathlib.Core.Path.{_≡_, refl, sym, ap, _∙_}
 use borrow.Author.Needs.{needs}
 use native.Mathlib.Omega.{arith}
 use Rattle.words.proofs.good_header.Statement.{statement}
 use Rattle.words.proofs.good_header.Tie as tie
-use Rattle.words.proofs.good_header.Reads as reads
-use Rattle.words.proofs.good_header.Lts as lts
-use Rattle.words.proofs.get.Reads as get-reads
-use Rattle.words.proofs.zeros.Reads as zeros-reads
 
 get-requires : tie.Need-get-requires
 get-requires c κs = search needs

@@ -1,3 +1,4 @@
+-- `words::lowest_free` meets its contract: what is left to search has the answer of the whole.
 use Rattle.words.proofs.Loops.{free-end, free-here, free-next}
 use Rattle.words.specs.Words.{firstOr, freeFrom, lowestFree}
 use mathlib.Core.Path.{_≡_, refl, sym, _∙_}
@@ -6,9 +7,6 @@ use borrow.Author.Needs.{needs}
 use native.Mathlib.Omega.{arith}
 use Rattle.words.proofs.lowest_free.Statement.{statement}
 use Rattle.words.proofs.lowest_free.Tie as tie
-use Rattle.words.proofs.lowest_free.Reads as reads
-use Rattle.words.proofs.lowest_free.Lts as lts
-use Rattle.words.proofs.word.Reads as word-reads
 
 abbrev Inv-loop : tie.InvT-loop
 Inv-loop pool n j₀ j = (1 ≤ j) × (j ≤ n) × (firstOr n (freeFrom pool (n - j) j) ≡ lowestFree pool n)

@@ -1,12 +1,7 @@
-use Rattle.words.specs.Words.{pageCount}
+-- `words::page_count` meets its contract: the test of the length is the definition's.
 use Rattle.kdb.specs.Pool.{goodLength}
-use mathlib.Core.Path.{_≡_}
-use borrow.Author.Needs.{needs}
-use native.Mathlib.Omega.{arith}
 use Rattle.words.proofs.page_count.Statement.{statement}
 use Rattle.words.proofs.page_count.Tie as tie
-use Rattle.words.proofs.page_count.Reads as reads
-use Rattle.words.proofs.page_count.Lts as lts
 
 returns : tie.Need-returns
 unfolding goodLength

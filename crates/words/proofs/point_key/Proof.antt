@@ -1,12 +1,9 @@
+-- `words::point_key` meets its contract: the place of a slot's key does not wrap.
 use Rattle.words.proofs.Loops.{slot-near}
-use Prim.Native.Nat.{_+_, _*_, _≤_}
 use borrow.Author.Needs.{needs}
 use native.Mathlib.Omega.{arith}
 use Rattle.words.proofs.point_key.Statement.{statement}
 use Rattle.words.proofs.point_key.Tie as tie
-use Rattle.words.proofs.point_key.Reads as reads
-use Rattle.words.proofs.point_key.Lts as lts
-use Rattle.words.proofs.get.Reads as get-reads
 
 mul-get : tie.Need-mul-get
 mul-get c = search needs

@@ -1,14 +1,10 @@
+-- `words::put` meets its contract: a store past the end does nothing.
 use lib.Seq.{set-out}
-use lib.ListN.{length, getD, set}
-use native.Mathlib.Nat.{sub-zero}
-use mathlib.Core.Path.{_≡_, refl, sym, ap, _∙_}
-use Prim.Native.Nat.{_≤_, _<_, _-_, _+_, _*_, _^_}
+use mathlib.Core.Path.{sym}
+use Prim.Native.Nat.{_-_}
 use borrow.Author.Needs.{needs}
-use native.Mathlib.Omega.{arith}
 use Rattle.words.proofs.put.Statement.{statement}
 use Rattle.words.proofs.put.Tie as tie
-use Rattle.words.proofs.put.Reads as reads
-use Rattle.words.proofs.put.Lts as lts
 
 cast-x : tie.Need-cast-x
 cast-x c = search needs

@@ -1,15 +1,13 @@
+-- `words::zeros` meets its contract: what is left to test, with the flag, gives what the whole gives.
 use Rattle.words.proofs.Loops.{all-end, all-next}
 use Rattle.words.specs.Words.{zeroAt, allZero}
 use Rattle.words.specs.Loops.{allBy}
 use mathlib.Core.Path.{_≡_, refl}
-use Prim.Native.Nat.{_≤_, _-_}
+use Prim.Native.Nat.{_-_}
 use borrow.Author.Needs.{needs}
 use native.Mathlib.Omega.{arith}
 use Rattle.words.proofs.zeros.Statement.{statement}
 use Rattle.words.proofs.zeros.Tie as tie
-use Rattle.words.proofs.zeros.Reads as reads
-use Rattle.words.proofs.zeros.Lts as lts
-use Rattle.words.proofs.get.Reads as get-reads
 
 abbrev Inv-loop : tie.InvT-loop
 Inv-loop pool from to ok₀ i₀ ok i = allBy (to - i) (zeroAt pool) 1 i ok ≡ allZero pool from (to - from)

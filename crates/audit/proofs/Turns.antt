@@ -1,0 +1,158 @@
+-- Laws of each way through the walk and of one turn over a page's entries, as code takes them.
+use mathlib.Core.Bool.{Bool, true, false, _&&_, _||_, not, cond}
+use mathlib.Core.List.{List, [], _∷_}
+use mathlib.Core.Path.{_≡_, refl, sym, ap, _∙_}
+use Prim.Native.Nat.{ℕ, zero, suc, _+_, _-_, _*_, _<_, _≤_}
+use native.Mathlib.Omega.{arith}
+use native.Mathlib.Nat.{suc-mul}
+use lib.Dec.{T, ltb, eqb}
+use lib.ListN.{length, drop, getD, set}
+use borrow.Author.Tests.{eq-eqb, ne-eqb, lt-ltb, le-ltb, ltb-true, eqb-false, not-true}
+use Rattle.kdb.specs.Lists.{every}
+use Rattle.kdb.specs.Box.{Box, whole}
+use Rattle.kdb.specs.Pages.{Ent, recsIn, entsIn, readEnts, page}
+use Rattle.kdb.specs.Pool.{domains, rootAt, levelsAt, countAt, view, goodLength, goodHeader}
+use Rattle.kdb.specs.Print.{sound}
+use Rattle.kdb.specs.Calls.{L, check, lent, refuses, outcome, Promise}
+use Rattle.kdb.proofs.Lists.{and-t}
+use Rattle.kdb.proofs.Words.{entAt, ent-turn}
+use Rattle.words.specs.Words.{Paged}
+use Rattle.words.proofs.Laws.{pages}
+use Rattle.cover.specs.Boxes.{regionIn}
+use Rattle.audit.specs.declared.Seen.{Seen}
+use Rattle.audit.specs.Tests.{freshOf, Numbered}
+use Rattle.audit.specs.Walk.{Way, spoilt, calm, through, soundPoints, soundRegions, fresh, leafOf, pageOf, walkOf, freeOf, restOf, unmarked, audited}
+
+-- c − e entries of d words from a on, up to m
+pub record Room (d c e a m : ℕ) : Type 0 where
+  pub left : a + (c - e) * d ≤ m
+
+pub room-here : (d c e a m : ℕ) → Room d c e a m → e < c → a + d ≤ m
+room-here d c e a m r h = let q : c - e ≡ suc (c - (e + 1)) = omega arith in omega (arith, suc-mul (c - (e + 1)) d, rw q at (r .left))
+
+pub room-next : (d c e a m : ℕ) → Room d c e a m → e < c → Room d c (e + 1) (a + d) m
+room-next d c e a m r h = let q : c - e ≡ suc (c - (e + 1)) = omega arith in record { left = omega (arith, suc-mul (c - (e + 1)) d, rw q at (r .left)) }
+
+module _ (step : Ent → Seen → List ℕ → Way) (w : List ℕ) (k c e a : ℕ) (s : Seen) (m : List ℕ) (v : Way) where
+  pub entries-end : through step (readEnts k (c - e) (drop a w)) s m ≡ v → c ≤ e → (s, m) ≡ v
+  unfolding through
+  entries-end q h = let z : c - e ≡ 0 = omega arith in rw z at q
+
+  pub entries-next : through step (readEnts k (c - e) (drop a w)) s m ≡ v → e < c
+      → through step (readEnts k (c - (e + 1)) (drop (a + (2 * k + 1)) w)) (step (entAt k w a) s m .0) (step (entAt k w a) s m .1) ≡ v
+  unfolding through
+  entries-next q h = rw (ent-turn k c e w a h) at q
+
+-- a page that may be looked at has the number of a page
+pub fresh-number : (n j : ℕ) (m : List ℕ) (s : Seen) → freshOf n j m s ≡ true → Numbered n j
+fresh-number n j m s e =
+    let a = and-t (not (s .bad) && not (eqb j 0) && ltb j n) _ e in
+    let b = and-t (not (s .bad) && not (eqb j 0)) _ (a .0) in
+    let z : j ≡ 0 → ⊥ = eqb-false j 0 (not-true (eqb j 0) (and-t (not (s .bad)) _ (b .0) .1)) in
+    record { some = omega arith; page = ltb-true j n (b .1) }
+
+module _ (l : ℕ) (w : List ℕ) (n : ℕ) (g : Paged w n) (j : ℕ) (r : Box) (s : Seen) (m : List ℕ) where
+  -- n is the number of pages
+  fresh-is : (t : Bool) → freshOf n j m s ≡ t → fresh L w j m s ≡ t
+  fresh-is t e = rw (pages w n g) e
+
+  pub page-bad : freshOf n j m s ≡ false → (spoilt (s .left), m) ≡ pageOf L w (l - 1) j r s m
+  unfolding pageOf
+  page-bad f = go (fresh-is false f) (l - 1)
+    where
+      go : fresh L w j m s ≡ false → (x : ℕ) → (spoilt (s .left), m) ≡ pageOf L w x j r s m
+      go f zero = rw f
+      go f (suc x) = rw f
+
+  pub page-leaf : freshOf n j m s ≡ true → l ≤ 1 → (leafOf L w j r (s .left), set m j 1) ≡ pageOf L w (l - 1) j r s m
+  unfolding pageOf
+  page-leaf f h = let z : l - 1 ≡ 0 = omega arith in rw z (rw (fresh-is true f))
+
+  pub page-spoilt : freshOf n j m s ≡ true → 1 < l → soundRegions L w j r ≡ false → (spoilt (s .left), set m j 1) ≡ pageOf L w (l - 1) j r s m
+  unfolding pageOf
+  page-spoilt f h t = let z : l - 1 ≡ suc (l - 1 - 1) = omega arith in rw z (rw (fresh-is true f, t))
+
+  pub page-entries : freshOf n j m s ≡ true → 1 < l → soundRegions L w j r ≡ true
+      → through (λ e. pageOf L w (l - 1 - 1) (e .child) (e .box)) (entsIn (view L w j)) (calm (s .left)) (set m j 1) ≡ pageOf L w (l - 1) j r s m
+  unfolding pageOf
+  page-entries f h t =
+      let z : l - 1 ≡ suc (l - 1 - 1) = omega arith in
+      let e : through (λ x. pageOf L w (l - 1 - 1) (x .child) (x .box)) (entsIn (view L w j)) (calm (s .left)) (set m j 1) ≡ pageOf L w (suc (l - 1 - 1)) j r s m = rw (fresh-is true f, t) in
+      e ∙ ap (λ (x : ℕ). pageOf L w x j r s m) (sym z)
+
+module _ (w : List ℕ) (j : ℕ) (r : Box) (left : ℕ) where
+  pub leaf-bad : soundPoints L w j r ≡ false → spoilt left ≡ leafOf L w j r left
+  unfolding leafOf
+  leaf-bad g = rw g
+
+  pub leaf-few : soundPoints L w j r ≡ true → left < length (recsIn (view L w j)) → spoilt left ≡ leafOf L w j r left
+  unfolding leafOf
+  leaf-few g h = rw (g, lt-ltb _ _ h)
+
+  pub leaf-found : soundPoints L w j r ≡ true → length (recsIn (view L w j)) ≤ left → calm (left - length (recsIn (view L w j))) ≡ leafOf L w j r left
+  unfolding leafOf
+  leaf-found g h = rw (g, le-ltb _ _ h)
+
+module _ (w m : List ℕ) where
+  pub walk-none : levelsAt w ≡ 0 → (calm (countAt w), m) ≡ walkOf L w m
+  unfolding walkOf
+  walk-none h = rw (eq-eqb _ _ h)
+
+  pub walk-page : (levelsAt w ≡ 0 → ⊥) → pageOf L w (levelsAt w - 1) (rootAt w) (whole (domains w)) (calm (countAt w)) m ≡ walkOf L w m
+  unfolding walkOf
+  walk-page h = rw (ne-eqb _ _ h)
+
+  pub free-met : (j : ℕ) → (getD m j 0 ≡ 0 → ⊥) → true ≡ freeOf L w m j
+  unfolding freeOf
+  free-met j h = rw (ne-eqb _ _ h)
+
+  pub free-not : (j : ℕ) → getD m j 0 ≡ 0 → every (eqb 0) (page L w j) ≡ freeOf L w m j
+  unfolding freeOf
+  free-not j h = rw (eq-eqb _ _ h)
+
+-- the eight words of which k lower and k upper ends of the whole space are cut out
+pub whole-words : (k : ℕ) → 1 ≤ k → k ≤ 4 → regionIn k (0 ∷ 0 ∷ 0 ∷ 0 ∷ 4294967295 ∷ 4294967295 ∷ 4294967295 ∷ 4294967295 ∷ []) (4 - k) ≡ whole k
+whole-words zero h g = absurd (omega arith)
+whole-words (suc zero) h g = refl
+whole-words (suc (suc zero)) h g = refl
+whole-words (suc (suc (suc zero))) h g = refl
+whole-words (suc (suc (suc (suc zero)))) h g = refl
+whole-words (suc (suc (suc (suc (suc k))))) h g = absurd (omega arith)
+
+-- what the audit answers
+module _ (w : List ℕ) (t : Way) (e : t ≡ walkOf L w unmarked) where
+  pub audited-bad : t .0 .bad || not (eqb (t .0 .left) 0) ≡ true → false ≡ audited L w
+  unfolding audited
+  audited-bad h = rw (← e) (go (t .0 .bad) (eqb (t .0 .left) 0) (restOf L w (t .1)) h)
+    where
+      go : (a b c : Bool) → a || not b ≡ true → false ≡ not a && b && c
+      go true b c h = refl
+      go false true c h = absurd (let z : _≡_ {A = ℕ} 0 1 = cc in omega arith)
+      go false false c h = refl
+
+  pub audited-rest : t .0 .bad || not (eqb (t .0 .left) 0) ≡ false → restOf L w (t .1) ≡ audited L w
+  unfolding audited
+  audited-rest h = rw (← e) (go (t .0 .bad) (eqb (t .0 .left) 0) (restOf L w (t .1)) h)
+    where
+      go : (a b c : Bool) → a || not b ≡ false → c ≡ not a && b && c
+      go true b c h = absurd (let z : _≡_ {A = ℕ} 0 1 = cc in omega arith)
+      go false true c h = refl
+      go false false c h = absurd (let z : _≡_ {A = ℕ} 0 1 = cc in omega arith)
+
+-- what check answers
+module _ (w : List ℕ) where
+  pub check-length : goodLength L w ≡ false → Promise w check (refuses 1 (lent w check))
+  unfolding outcome
+  check-length a = record { kept = rw a }
+
+  pub check-header : goodLength L w ≡ true → goodHeader L w ≡ false → Promise w check (refuses 6 (lent w check))
+  unfolding outcome
+  check-header a b = record { kept = rw (a, b) }
+
+  pub check-unsound : goodLength L w ≡ true → goodHeader L w ≡ true → sound L w ≡ false → Promise w check (refuses 6 (lent w check))
+  unfolding outcome
+  check-unsound a b c = record { kept = rw (a, b, c) }
+
+  pub check-sound : goodLength L w ≡ true → goodHeader L w ≡ true → sound L w ≡ true → Promise w check (refuses 0 (lent w check))
+  unfolding outcome
+  check-sound a b c = record { kept = rw (a, b, c) }

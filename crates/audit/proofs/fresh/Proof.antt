@@ -1,0 +1,16 @@
+use borrow.Author.Needs.{needs}
+use native.Mathlib.Omega.{arith}
+use Rattle.audit.proofs.fresh.Statement.{statement}
+use Rattle.audit.proofs.fresh.Tie as tie
+use Rattle.audit.proofs.fresh.Reads as reads
+use Rattle.audit.proofs.fresh.Lts as lts
+use Rattle.words.proofs.get.Reads as get-reads
+
+get-requires : tie.Need-get-requires
+get-requires c κs = search needs
+
+returns : tie.Need-returns
+returns c = rw (c .get .ensures .0)
+
+pub fresh-spec : {M : Type 1} → statement M
+fresh-spec = tie.close (tie.spec get-requires returns)

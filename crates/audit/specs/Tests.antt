@@ -1,0 +1,52 @@
+-- The tests of one page, as code goes through its words.
+use mathlib.Core.Bool.{Bool, true, false, _&&_, not}
+use mathlib.Core.List.{List, [], _∷_}
+use mathlib.Core.Path.{_≡_}
+use Prim.Native.Nat.{ℕ, zero, suc, _+_, _*_, _≤_, _<_, _^_}
+use lib.Dec.{leb, ltb, eqb}
+use lib.ListN.{length, getD}
+use Rattle.kdb.specs.Lists.{every, same}
+use Rattle.kdb.specs.Box.{Box, Key, within}
+use Rattle.kdb.specs.Pool.{domains}
+use Rattle.kdb.proofs.Words.{keysBy}
+use Rattle.words.specs.Words.{wordAt, Paged, pointKey}
+use Rattle.audit.specs.declared.Seen.{Seen}
+
+-- the key in slot e of page j, and those in m slots from e on
+abbrev pub keyIn : List ℕ → ℕ → ℕ → ℕ → Key
+keyIn w k j e = keysBy k (pointKey w k j e) 0
+
+abbrev pub keysIn : ℕ → List ℕ → ℕ → ℕ → ℕ → List Key
+keysIn zero w k j e = []
+keysIn (suc m) w k j e = keyIn w k j e ∷ keysIn m w k j (e + 1)
+
+-- x is none of the keys
+abbrev pub alone : Key → List Key → Bool
+alone x ys = every (λ y. not (same x y)) ys
+
+-- the keys lie in r, and no two are the same
+abbrev pub scattered : Box → List Key → Bool
+scattered r [] = true
+scattered r (x ∷ xs) = (within r x && alone x xs) && scattered r xs
+
+-- the four words before the entries of page j: this kind, at most so many entries, a domain below k, zero
+abbrev pub headOf : List ℕ → ℕ → ℕ → ℕ → ℕ → Bool
+headOf w k j kind full = eqb (wordAt w j 0) kind && leb (wordAt w j 1) full && ltb (wordAt w j 2) k && eqb (wordAt w j 3) 0
+
+-- no page was bad, and j is a number below n that was not met
+abbrev pub freshOf : ℕ → ℕ → List ℕ → Seen → Bool
+freshOf n j m s = not (s .bad) && not (eqb j 0) && ltb j n && eqb (getD m j 0) 0
+
+-- a pool of n pages and k domains, with a region of k domains at word b of v
+pub record Held (w : List ℕ) (n k : ℕ) (v : List ℕ) (b : ℕ) : Type 0 where
+  pub pool : Paged w n
+  pub domains : k ≡ getD w 0 0
+  pub least : 1 ≤ k
+  pub most : k ≤ 4
+  pub region : b + 2 * k ≤ length v
+  pub near : b < 2 ^ 32
+
+-- j is the number of a page
+pub record Numbered (n j : ℕ) : Type 0 where
+  pub some : 1 ≤ j
+  pub page : j < n

@@ -1,0 +1,82 @@
+-- What the audit does: a walk from the root with a mark for each page met, each page held against its level and its own region, the points
+-- counted down from word 4; then the pages not met are all zero. `Exact.audit-iff` says that it answers exactly as `Sound` does.
+use mathlib.Core.Bool.{Bool, true, false, _&&_, not, cond}
+use mathlib.Core.List.{List, [], _∷_}
+use Prim.Native.Nat.{ℕ, zero, suc, _-_}
+use lib.Dec.{ltb, eqb}
+use lib.ListN.{length, getD, set, replicate}
+use Rattle.kdb.specs.Lists.{every, same}
+use Rattle.kdb.specs.Box.{Box, whole}
+use Rattle.kdb.specs.Pages.{Ent, regionsPer, pointsPer, domain, recsIn, entsIn, boxesIn, isPoints, isRegions, printPage, page}
+use Rattle.kdb.specs.Shape.{pointPage, regionPage}
+use Rattle.kdb.specs.Pool.{domains, rootAt, levelsAt, countAt, pagesIn, view, numbers}
+use Rattle.audit.specs.declared.Seen.{Seen}
+use Rattle.audit.specs.Tests.{freshOf}
+
+-- what a walk has met, and the marks
+abbrev pub Way : Type 0
+Way = Seen × List ℕ
+
+abbrev pub spoilt : ℕ → Seen
+spoilt left = record { bad = true; left = left }
+
+abbrev pub calm : ℕ → Seen
+calm left = record { bad = false; left = left }
+
+-- a mark for each of 512 pages
+abbrev pub unmarked : List ℕ
+unmarked = replicate 512 0
+
+-- entry by entry
+unfoldable pub through : (Ent → Seen → List ℕ → Way) → List Ent → Seen → List ℕ → Way
+through step [] s m = (s, m)
+through step (e ∷ es) s m = let t = step e s m in through step es (t .0) (t .1)
+
+-- L is the words of a page, w the pool's words
+module _ (L : ℕ) (w : List ℕ) where
+  abbrev pub laidOut : ℕ → Bool
+  laidOut j = same (page L w j) (printPage L (view L w j))
+
+  -- page j has the layout, and is a point page of region r
+  unfoldable pub soundPoints : ℕ → Box → Bool
+  soundPoints j r =
+      laidOut j && isPoints (view L w j)
+      && pointPage (domains w) (regionsPer L (domains w)) (pointsPer L (domains w)) (domain (view L w j)) (recsIn (view L w j)) r
+
+  -- page j has the layout, and is a region page of region r
+  unfoldable pub soundRegions : ℕ → Box → Bool
+  soundRegions j r =
+      laidOut j && isRegions (view L w j)
+      && regionPage (domains w) (regionsPer L (domains w)) (pointsPer L (domains w)) (domain (view L w j)) (boxesIn (view L w j)) r
+
+  abbrev pub fresh : ℕ → List ℕ → Seen → Bool
+  fresh j m s = freshOf (pagesIn L w) j m s
+
+  -- the points of page j are found
+  unfoldable pub leafOf : ℕ → Box → ℕ → Seen
+  leafOf j r left =
+      let n = length (recsIn (view L w j)) in
+      cond (soundPoints j r) (cond (ltb left n) (spoilt left) (calm (left - n))) (spoilt left)
+
+  -- page j, l levels of region pages above the points, of region r, and all below it
+  unfoldable pub pageOf : ℕ → ℕ → Box → Seen → List ℕ → Way
+  pageOf zero j r s m = cond (fresh j m s) (leafOf j r (s .left), set m j 1) (spoilt (s .left), m)
+  pageOf (suc l) j r s m =
+      let t = through (λ e. pageOf l (e .child) (e .box)) (entsIn (view L w j)) (calm (s .left)) (set m j 1) in
+      cond (fresh j m s) (cond (soundRegions j r) t (spoilt (s .left), set m j 1)) (spoilt (s .left), m)
+
+  -- all that the header's root names
+  unfoldable pub walkOf : List ℕ → Way
+  walkOf m =
+      let t = pageOf (levelsAt w - 1) (rootAt w) (whole (domains w)) (calm (countAt w)) m in
+      cond (eqb (levelsAt w) 0) (calm (countAt w), m) t
+
+  -- page j was met, or is all zero
+  unfoldable pub freeOf : List ℕ → ℕ → Bool
+  freeOf m j = cond (eqb (getD m j 0) 0) (every (eqb 0) (page L w j)) true
+
+  unfoldable pub restOf : List ℕ → Bool
+  restOf m = every (freeOf m) (numbers L w)
+
+  unfoldable pub audited : Bool
+  audited = let t = walkOf unmarked in not (t .0 .bad) && eqb (t .0 .left) 0 && restOf (t .1)

@@ -1,0 +1,262 @@
+// The audit of a pool: whether it is sound, for every pool. One walk from the root with a mark for each page met, so that no page is looked
+// at twice; then the pages not met are all zero.
+use cover::tiled;
+use words::child;
+use words::get;
+use words::good_header;
+use words::lower_end;
+use words::page_count;
+use words::point_key;
+use words::points_per;
+use words::put;
+use words::regions_per;
+use words::upper_end;
+use words::word;
+use words::zeros;
+ghost use mathlib.Core.Path.{_≡_};
+ghost use mathlib.Core.Bool.{true, false};
+ghost use mathlib.Core.List.{[]};
+ghost use Prim.Native.Nat.{ℕ, _+_, _*_, _-_, _≤_, _<_, _^_};
+ghost use lib.Dec.{T};
+ghost use lib.ListN.{length, getD, set};
+ghost use Rattle.kdb.specs.Lists.{same};
+ghost use Rattle.kdb.specs.Box.{within};
+ghost use Rattle.kdb.specs.Pool.{goodHeader};
+ghost use Rattle.kdb.specs.Print.{sound};
+ghost use Rattle.kdb.specs.Calls.{L, Call, lent, refuses, Promise};
+ghost use Rattle.words.specs.Words.{Paged};
+ghost use Rattle.cover.specs.Boxes.{boxAt, regionIn};
+ghost use Rattle.audit.specs.Tests.{keyIn, keysIn, alone, scattered, headOf, freshOf, Held, Numbered};
+ghost use Rattle.audit.specs.Walk.{soundPoints, soundRegions, leafOf, pageOf, walkOf, freeOf, restOf};
+
+// The point in a slot of page j lies in the region at word b of q.
+fn holds(p: &[u32], k: usize, j: usize, slot: usize, q: &[u32], b: usize) -> bool
+    requires { ⌜ (k ≤ 4) × ((j < 2 ^ 32) × ((slot < 2 ^ 32) × (b < 2 ^ 40))) ⌝ }
+    ensures { λ r. ⌜ r ≡ within (boxAt (now (q .entry)) k b) (keyIn (now (p .entry)) k j slot) ⌝ }
+{
+    let mut ok = true;
+    let mut d: usize = 0;
+    while d < k {
+        let key = point_key(p, k, j, slot, d);
+        ok = ok & ((lower_end(q, b, d) <= key) & (key < upper_end(q, k, b, d)));
+        d += 1;
+    }
+    ok
+}
+
+// The points in slots e and f of page j have the same keys.
+fn twins(p: &[u32], k: usize, j: usize, e: usize, f: usize) -> bool
+    requires { ⌜ (k ≤ 4) × ((j < 2 ^ 32) × ((e < 2 ^ 32) × (f < 2 ^ 32))) ⌝ }
+    ensures { λ r. ⌜ r ≡ same (keyIn (now (p .entry)) k j e) (keyIn (now (p .entry)) k j f) ⌝ }
+{
+    let mut ok = true;
+    let mut d: usize = 0;
+    while d < k {
+        ok = ok & (point_key(p, k, j, e, d) == point_key(p, k, j, f, d));
+        d += 1;
+    }
+    ok
+}
+
+// No point of page j from slot e + 1 to slot `to` has the keys of the one in slot e.
+fn differs(p: &[u32], k: usize, j: usize, e: usize, to: usize) -> bool
+    requires { ⌜ (k ≤ 4) × ((j < 2 ^ 32) × ((e < 2 ^ 31) × (to < 2 ^ 32))) ⌝ }
+    ensures { λ r. ⌜ r ≡ alone (keyIn (now (p .entry)) k j e) (keysIn (to - (e + 1)) (now (p .entry)) k j (e + 1)) ⌝ }
+{
+    let mut ok = true;
+    let mut f = e + 1;
+    while f < to {
+        ok = ok & !twins(p, k, j, e, f);
+        f += 1;
+    }
+    ok
+}
+
+// The `count` points of page j lie in the region at word b of q, and no two have the same keys.
+fn points_fit(p: &[u32], k: usize, j: usize, count: usize, q: &[u32], b: usize) -> bool
+    requires { ⌜ (k ≤ 4) × ((j < 2 ^ 32) × ((count < 2 ^ 31) × (b < 2 ^ 40))) ⌝ }
+    ensures { λ r. ⌜ r ≡ scattered (boxAt (now (q .entry)) k b) (keysIn count (now (p .entry)) k j 0) ⌝ }
+{
+    let mut ok = true;
+    let mut e: usize = 0;
+    while e < count {
+        ok = ok & (holds(p, k, j, e, q, b) & differs(p, k, j, e, count));
+        e += 1;
+    }
+    ok
+}
+
+// Page j is of this kind, has at most `full` entries, a domain below k and a zero word.
+fn head_good(p: &[u32], k: usize, j: usize, kind: usize, full: usize) -> bool
+    requires { ⌜ j < 2 ^ 32 ⌝ }
+    ensures { λ r. ⌜ r ≡ headOf (now (p .entry)) k j kind full ⌝ }
+{
+    (word(p, j, 0) == kind) & (word(p, j, 1) <= full) & (word(p, j, 2) < k) & (word(p, j, 3) == 0)
+}
+
+// Page j of n is a point page of the region at word b of q.
+fn point_page(p: &[u32], n: usize, k: usize, j: usize, q: &[u32], b: usize) -> bool
+    requires { ⌜ Held (now p) n k (now q) b × Numbered n j ⌝ }
+    ensures { λ r. ⌜ r ≡ soundPoints L (now (p .entry)) j (regionIn k (now (q .entry)) b) ⌝ }
+{
+    let count = word(p, j, 1);
+    if !head_good(p, k, j, 2, points_per(k)) {
+        return false;
+    }
+    if !zeros(p, 32 * j + 4 + count * (k + 1), 32 * j + 32) {
+        return false;
+    }
+    points_fit(p, k, j, count, q, b)
+}
+
+// Page j of n is a region page of the region at word b of q.
+fn region_page(p: &[u32], n: usize, k: usize, j: usize, q: &[u32], b: usize) -> bool
+    requires { ⌜ Held (now p) n k (now q) b × Numbered n j ⌝ }
+    ensures { λ r. ⌜ r ≡ soundRegions L (now (p .entry)) j (regionIn k (now (q .entry)) b) ⌝ }
+{
+    let count = word(p, j, 1);
+    if !(head_good(p, k, j, 1, regions_per(k)) & (1 <= count)) {
+        return false;
+    }
+    if !zeros(p, 32 * j + 4 + count * (2 * k + 1), 32 * j + 32) {
+        return false;
+    }
+    tiled(p, k, 32 * j + 4, count, q, b)
+}
+
+// What a walk has met: whether a page was bad, and how many points are still to be found.
+pub struct Seen {
+    pub bad: bool,
+    pub left: usize,
+}
+
+// Page j may be looked at: no page was bad, and j is the number of a page that was not met.
+fn fresh(n: usize, j: usize, met: &[u32], s: Seen) -> bool
+    ensures { λ r. ⌜ r ≡ freshOf n j (now (met .entry)) s ⌝ }
+{
+    !s.bad & (j != 0) & (j < n) & (get(met, j) == 0)
+}
+
+// The points of page j are found.
+fn leaf(p: &[u32], n: usize, k: usize, j: usize, q: &[u32], b: usize, left: usize) -> Seen
+    requires { ⌜ Held (now p) n k (now q) b × Numbered n j ⌝ }
+    ensures { λ r. ⌜ r ≡ leafOf L (now (p .entry)) j (regionIn k (now (q .entry)) b) left ⌝ }
+{
+    if !point_page(p, n, k, j, q, b) {
+        return Seen { bad: true, left };
+    }
+    let count = word(p, j, 1);
+    if left < count {
+        return Seen { bad: true, left };
+    }
+    Seen {
+        bad: false,
+        left: left - count,
+    }
+}
+
+// Page j, that is to have `level` levels and the region at word b of q, and all below it.
+fn page(
+    p: &[u32],
+    n: usize,
+    k: usize,
+    level: usize,
+    j: usize,
+    q: &[u32],
+    b: usize,
+    met: &mut [u32],
+    s: Seen,
+) -> Seen
+    requires { ⌜ Held (now p) n k (now q) b ⌝ }
+    ensures { λ r. ⌜ (r, now (met .exit)) ≡ pageOf L (now (p .entry)) (level - 1) j (regionIn k (now (q .entry)) b) s (now (met .entry)) ⌝ }
+{
+    let left = s.left;
+    if !fresh(n, j, met, s) {
+        return Seen { bad: true, left };
+    }
+    put(met, j, 1);
+    if level <= 1 {
+        return leaf(p, n, k, j, q, b, left);
+    }
+    if !region_page(p, n, k, j, q, b) {
+        return Seen { bad: true, left };
+    }
+    let count = word(p, j, 1);
+    let mut u = Seen { bad: false, left };
+    let mut at = 32 * j + 4;
+    let mut e: usize = 0;
+    while e < count {
+        u = page(p, n, k, level - 1, child(p, k, at), p, at, met, u);
+        at += 2 * k + 1;
+        e += 1;
+    }
+    u
+}
+
+// All that the header's root names.
+fn walk(p: &[u32], n: usize, k: usize, met: &mut [u32]) -> Seen
+    requires { ⌜ (Paged (now p) n) × ((k ≡ getD (now p) 0 0) × ((1 ≤ k) × (k ≤ 4))) ⌝ }
+    ensures { λ r. ⌜ (r, now (met .exit)) ≡ walkOf L (now (p .entry)) (now (met .entry)) ⌝ }
+{
+    let left = get(p, 4);
+    let levels = get(p, 3);
+    let s = Seen { bad: false, left };
+    if levels == 0 {
+        return s;
+    }
+    let whole: [u32; 8] = [0, 0, 0, 0, 4294967295, 4294967295, 4294967295, 4294967295];
+    page(p, n, k, levels, get(p, 2), &whole, 4 - k, met, s)
+}
+
+// Page j was met, or is all zero.
+fn free(p: &[u32], n: usize, met: &[u32], j: usize) -> bool
+    requires { ⌜ Paged (now p) n × Numbered n j ⌝ }
+    ensures { λ r. ⌜ r ≡ freeOf L (now (p .entry)) (now (met .entry)) j ⌝ }
+{
+    if get(met, j) != 0 {
+        return true;
+    }
+    zeros(p, 32 * j, 32 * j + 32)
+}
+
+// Every page from 1 to n - 1 that was not met is all zero.
+fn rest(p: &[u32], n: usize, met: &[u32]) -> bool
+    requires { ⌜ Paged (now p) n ⌝ }
+    ensures { λ r. ⌜ r ≡ restOf L (now (p .entry)) (now (met .entry)) ⌝ }
+{
+    let mut ok = true;
+    let mut j: usize = 1;
+    while j < n {
+        ok = ok & free(p, n, met, j);
+        j += 1;
+    }
+    ok
+}
+
+// A pool of n pages with a good header is sound.
+pub fn audit(p: &[u32], n: usize) -> bool
+    requires { ⌜ Paged (now p) n × (goodHeader L (now p) ≡ true) ⌝ }
+    ensures { λ r. ⌜ r ≡ sound L (now (p .entry)) ⌝ }
+{
+    let mut met: [u32; 512] = [0; 512];
+    let s = walk(p, n, get(p, 0), &mut met);
+    let left = s.left;
+    if s.bad | (left != 0) {
+        return false;
+    }
+    rest(p, n, &met)
+}
+
+// The number that check answers: 1 for a pool of another length, 6 for a bad header or a pool that is not sound, 0.
+pub fn check(pool: &[u32]) -> u32
+    ensures { λ r. ⌜ Promise (now (pool .entry)) Call.check (refuses r (lent (now (pool .entry)) Call.check)) ⌝ }
+{
+    let n = page_count(pool);
+    if n == 0 {
+        return 1;
+    }
+    if !good_header(pool, n) {
+        return 6;
+    }
+    if audit(pool, n) { 0 } else { 6 }
+}

@@ -1,0 +1,67 @@
+use mathlib.Core.Bool.{true}
+use Prim.Native.Nat.{_-_}
+use mathlib.Core.Path.{_≡_}
+use native.Mathlib.Nat.{sub-zero}
+use Rattle.words.specs.Loops.{allBy}
+use Rattle.words.proofs.Loops.{all-end, all-next}
+use Rattle.cover.specs.Boxes.{insideSide, insideOf, sideAt, boxAt}
+use Rattle.cover.proofs.Tests.{side-loop}
+use borrow.Author.Needs.{needs}
+use native.Mathlib.Omega.{arith}
+use Rattle.cover.proofs.inside.Statement.{statement}
+use Rattle.cover.proofs.inside.Tie as tie
+use Rattle.cover.proofs.inside.Reads as reads
+use Rattle.cover.proofs.inside.Lts as lts
+use Rattle.words.proofs.lower_end.Reads as lower-end-reads
+use Rattle.words.proofs.upper_end.Reads as upper-end-reads
+
+abbrev Inv-loop : tie.InvT-loop
+Inv-loop p a k q b ok₀ i₀ ok i = allBy (k - i) (λ n d. insideSide (sideAt p k a d) (sideAt q k b d)) 1 i ok ≡ insideOf (boxAt p k a) (boxAt q k b)
+
+abbrev μ-loop : tie.MeasureT-loop
+μ-loop p a k q b ok₀ i₀ ok i = k - i
+
+loop-holds : tie.Need-loop-holds Inv-loop μ-loop
+loop-holds c = let x = c .before .before .args in
+    simp sub-zero (side-loop insideSide (x .k) (sideAt (x .p .now) (x .k) (x .a)) (sideAt (x .q .now) (x .k) (x .b)) 0 true)
+
+lower-end-requires : tie.Need-lower-end-requires Inv-loop μ-loop
+lower-end-requires c κs = search needs
+
+upper-end-requires : tie.Need-upper-end-requires Inv-loop μ-loop
+upper-end-requires c κs = search needs
+
+lower-end-requires-2 : tie.Need-lower-end-requires-2 Inv-loop μ-loop
+lower-end-requires-2 c κs = search needs
+
+upper-end-requires-2 : tie.Need-upper-end-requires-2 Inv-loop μ-loop
+upper-end-requires-2 c κs = search needs
+
+add-i : tie.Need-add-i Inv-loop μ-loop
+add-i c = search needs
+
+loop-less : tie.Need-loop-less Inv-loop μ-loop
+loop-less c = search needs
+
+loop-again : tie.Need-loop-again Inv-loop μ-loop
+loop-again c = rw (c .upper-end2 .ensures .0, c .before .lower-end2 .ensures .0, c .before .before .upper-end .ensures .0, c .before .before .before .lower-end .ensures .0)
+    (all-next _ _ _ _ _ _ _ (c .before .before .before .before .before .loop .inv) (omega arith))
+
+returns : tie.Need-returns Inv-loop μ-loop
+returns c = all-end _ _ _ _ _ _ _ (c .before .loop .inv) (omega arith)
+
+pub inside-spec : {M : Type 1} → statement M
+inside-spec =
+    tie.close
+    (tie.spec
+    Inv-loop
+    μ-loop
+    loop-holds
+    lower-end-requires
+    upper-end-requires
+    lower-end-requires-2
+    upper-end-requires-2
+    add-i
+    loop-less
+    loop-again
+    returns)

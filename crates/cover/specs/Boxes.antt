@@ -1,0 +1,73 @@
+-- Regions as code finds them in words, and the tests of their entries one after the other.
+use mathlib.Core.Bool.{Bool, true, false, _&&_, not}
+use mathlib.Core.List.{List, [], _∷_, map}
+use Prim.Native.Nat.{ℕ, zero, suc, _+_, _*_, _≤_, _<_, _^_}
+use lib.Dec.{leb, ltb}
+use lib.ListN.{length, take, drop, getD}
+use Rattle.kdb.specs.Lists.{every}
+use Rattle.kdb.specs.Box.{Side, Box, sides}
+use Rattle.kdb.specs.Pages.{readEnts}
+
+-- m sides from domain i on
+abbrev pub sidesBy : ℕ → (ℕ → Side) → ℕ → Box
+sidesBy zero f i = []
+sidesBy (suc m) f i = f i ∷ sidesBy m f (i + 1)
+
+-- the side in domain i, and the whole, of the region at word a; n regions from word a on
+abbrev pub sideAt : List ℕ → ℕ → ℕ → ℕ → Side
+sideAt w k a i = record { lo = getD w (a + i) 0; hi = getD w (a + k + i) 0 }
+
+abbrev pub boxAt : List ℕ → ℕ → ℕ → Box
+boxAt w k a = sidesBy k (sideAt w k a) 0
+
+abbrev pub boxesAt : ℕ → List ℕ → ℕ → ℕ → List Box
+boxesAt zero w k a = []
+boxesAt (suc n) w k a = boxAt w k a ∷ boxesAt n w k (a + (2 * k + 1))
+
+-- the same as a page's view has them
+abbrev pub regionIn : ℕ → List ℕ → ℕ → Box
+regionIn k w a = sides (take k (drop a w)) (take k (drop (a + k) w))
+
+abbrev pub regionsIn : ℕ → ℕ → List ℕ → ℕ → List Box
+regionsIn k n w a = map (λ e. e .box) (readEnts k n (drop a w))
+
+-- places that no sum of them passes the largest number
+pub record Near (k at count b : ℕ) : Type 0 where
+  pub domains : k ≤ 4
+  pub from : at < 2 ^ 32
+  pub some : 1 ≤ count
+  pub few : count < 2 ^ 32
+  pub region : b < 2 ^ 32
+
+-- the regions and the region lie in the words
+pub record Within (w : List ℕ) (k at count : ℕ) (v : List ℕ) (b : ℕ) : Type 0 where
+  pub entries : at + count * (2 * k + 1) ≤ length w
+  pub region : b + 2 * k ≤ length v
+
+-- a test of each side of one region and that of the other
+abbrev pub sideBySide : (Side → Side → Bool) → Box → Box → Bool
+sideBySide f [] [] = true
+sideBySide f [] (t ∷ r) = false
+sideBySide f (s ∷ e) [] = false
+sideBySide f (s ∷ e) (t ∷ r) = f s t && sideBySide f e r
+
+-- e is not empty and lies in r
+abbrev pub insideSide : Side → Side → Bool
+insideSide s t = ltb (s .lo) (s .hi) && leb (t .lo) (s .lo) && leb (s .hi) (t .hi)
+
+abbrev pub insideOf : Box → Box → Bool
+insideOf e r = sideBySide insideSide e r
+
+-- two regions that are not empty share a key
+abbrev pub overlapSide : Side → Side → Bool
+overlapSide s t = ltb (s .lo) (t .hi) && ltb (t .lo) (s .hi)
+
+abbrev pub overlap : Box → Box → Bool
+overlap e c = sideBySide overlapSide e c
+
+abbrev pub clearOf : Box → List Box → Bool
+clearOf e es = every (λ c. not (overlap e c)) es
+
+abbrev pub fitting : Box → List Box → Bool
+fitting r [] = true
+fitting r (e ∷ es) = (insideOf e r && clearOf e es) && fitting r es

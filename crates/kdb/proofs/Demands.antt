@@ -1,0 +1,445 @@
+-- Demand 2: after any calls on a sound pool the pool is sound, its records are the live ones, and list and find answer by them; from an
+-- accepted format in particular; and the same of any code whose calls keep their promises. Demand 3: what a walk reads.
+use mathlib.Core.Bool.{Bool, true, false, _&&_, not, cond}
+use mathlib.Core.List.{List, [], _∷_, _++_, map}
+use mathlib.Core.Option.{Option, none, some}
+use mathlib.Core.Path.{_≡_, refl, sym, ap, _∙_, subst}
+use Prim.Native.Nat.{ℕ, zero, suc, _+_, _≤_, _<_}
+use native.Mathlib.Omega.{arith}
+use lib.Dec.{T, eqb, eqb→eq, T-not}
+use lib.ListN.{length, getD}
+use mathlib.Core.Logic.{_↔_}
+use borrow.Author.Tests.{eq-eqb}
+use Rattle.kdb.specs.Lists.{bit, tally, same, many}
+use Rattle.kdb.specs.Box.{Key, whole, within}
+use Rattle.kdb.specs.Tree.{Rec, State, Tree, records, recordsOf, pagesOf}
+use Rattle.kdb.specs.Steps.{removed, freeOf}
+use Rattle.kdb.specs.Pages.{regionsPer, pointsPer}
+use Rattle.kdb.specs.Shape.{WellFormed}
+use Rattle.kdb.specs.Pool.{domains, pagesIn, goodLength, goodHeader, Sound, ownRegion}
+use Rattle.kdb.specs.Print.{printed, stateOf, sound}
+use Rattle.kdb.specs.Walk.{Spot, End, rootless, bad, absent, here, findWalk, listWalk}
+use Rattle.kdb.specs.Calls.{L, Call, format, check, place, remove, find, list, Outcome, goodDomains, finite, present, placing, removing, stepped, outcome, windowOf, walkOf, begins, Buffers, unless, judge, _or_, lent, core}
+use Rattle.kdb.specs.History.{answerOf, run, answers, change, changed, live, Keeps}
+use Rattle.kdb.specs.Demands.{SameRecords, keyed, liveAfter, Demand2, ByTheSteps, goodWindow, Shares, Demand3, Bounded, goodPoint, Demand1}
+use Rattle.kdb.proofs.Walk.{walk-bound, list-returns, find-returns}
+use Rattle.kdb.proofs.Lists.{and-l, and-r, and-i, bool, tally-append, to-bit, no-bit, same-refl, In, is-true, of-true, tally-imp}
+use Rattle.kdb.proofs.Stands.{Stands}
+use Rattle.kdb.proofs.Views.{finite-whole}
+use Rattle.kdb.proofs.Print.{read-state}
+use Rattle.kdb.proofs.Pool.{print-sound, sound-iff, Sound-stands}
+use Rattle.kdb.proofs.Format.{formatted-printed, none-formed}
+use Rattle.kdb.proofs.Grow.{roomy-32, placed-formed, removed-formed, key-once, Placing, Placed, claims, placed-none-iff}
+use Rattle.kdb.proofs.Reading.{Answers, find-rootless, find-answers, list-reads, list-once, list-count, find-reads}
+use Rattle.kdb.proofs.Windows.{good-meets, point-good, point-reads, point-path}
+use Rattle.kdb.proofs.Calls.{done, refusal-keeps, check-still, find-still, list-still, goes-on, judge-past}
+use Rattle.kdb.proofs.History.{without-tally, changed-same, keeps-run}
+use Rattle.kdb.proofs.Answers.{list-begins, find-begins, list-answers, find-finds, one-located}
+
+big : 5 ≤ L
+big = omega arith
+
+-- a printed state: sound, and read back
+printed-sound : (k N : ℕ) (s : State) → WellFormed L k N s → Sound L (printed L k N s)
+printed-sound k N s f = sound-iff L big (printed L k N s) .0 (print-sound L k N s big f)
+
+-- what one call makes of a sound pool
+pub record After (w : List ℕ) (c : Call) : Type 0 where
+  pub sound : Sound L (outcome w c .after .pool)
+  pub same : SameRecords (recordsOf (stateOf L (outcome w c .after .pool))) (changed (outcome w c .number) c (recordsOf (stateOf L w)))
+
+-- the tests that an accepted place and an accepted remove have passed
+pub record Passed (w p : List ℕ) : Type 0 where
+  pub long : length p ≡ domains w
+  pub ends : T (finite p)
+  pub well : Sound L w
+
+passed-within : (w p : List ℕ) → Passed w p → T (within (whole (domains w)) p)
+passed-within w p h = finite-whole (domains w) p (h .long) (h .ends)
+
+-- a walk to a point that does not end at a record finds no record with its keys
+not-there : (w p : List ℕ) → Passed w p → T (not (present (findWalk L w p .end))) → tally (keyed p) (recordsOf (stateOf L w)) ≡ 0
+not-there w p h n = go (stateOf L w) (Sound-stands L w (h .well) big)
+  where
+    by-end : (t : Tree) (e : End) → T (not (present e)) → Answers (records t) p e → tally (keyed p) (records t) ≡ 0
+    by-end t rootless n a = absurd a
+    by-end t bad n a = absurd a
+    by-end t (absent j) n a = a
+    by-end t (here x) n a = absurd n
+
+    go : (s : State) → Stands L w s → tally (keyed p) (recordsOf s) ≡ 0
+    go none st = refl
+    go (some t) st = by-end t (findWalk L w p .end) n (find-answers L w p t st (passed-within w p h))
+
+-- what place and remove have passed when they begin
+pub place-passed : (w work p : List ℕ) (l : ℕ) → T (begins w (place work p l)) → Passed w p × T (not (present (findWalk L w p .end)))
+place-passed w work p l h =
+    let i = eqb (length p) (domains w) in
+    let j = eqb (length work) (length w) in
+    let t3 = and-r (goodHeader L w) _ (and-r (goodLength L w) _ h) in
+    let t4 = and-r (i && j) _ t3 in
+    let t6 = and-r (finite p) _ t4 in (
+      record { long = eqb→eq (length p) (domains w) (and-l i j (and-l (i && j) _ t3)); ends = and-l (finite p) _ t4; well = sound-iff L big w .0 (and-l (sound L w) _ t6) },
+      and-l (not (present (findWalk L w p .end))) _ (and-r (sound L w) _ t6),
+    )
+
+pub remove-passed : (w p : List ℕ) → T (begins w (remove p)) → Passed w p
+remove-passed w p h =
+    let i = eqb (length p) (domains w) in
+    let t3 = and-r (goodHeader L w) _ (and-r (goodLength L w) _ h) in
+    let t4 = and-r i _ t3 in
+    record { long = eqb→eq (length p) (domains w) (and-l i _ t3); ends = and-l (finite p) _ t4; well = sound-iff L big w .0 (and-l (sound L w) _ (and-r (finite p) _ t4)) }
+
+-- so that the tree's laws of placing hold
+pub place-placing : (w work p : List ℕ) (l : ℕ) → T (begins w (place work p l)) → Placing L (domains w) (pagesIn L w) (stateOf L w) (record { key = p; loc = l })
+place-placing w work p l h =
+    let c = place-passed w work p l h in
+    let f = Sound-stands L w (c .0 .well) big .formed in
+    record { roomy = roomy-32 (domains w) (f .domains .0) (f .domains .1); formed = f; inside = passed-within w p (c .0); new = not-there w p (c .0) (c .1) }
+
+-- a done place: the step's state, well-formed and with one record more, and the pool after it
+record PlaceDone (w work p : List ℕ) (l : ℕ) : Type 0 where
+  state : State
+  is : stepped w (record { key = p; loc = l }) ≡ some state
+  pool : outcome w (place work p l) .after .pool ≡ printed L (domains w) (pagesIn L w) state
+  placed : Placed L (domains w) (pagesIn L w) (stateOf L w) state (record { key = p; loc = l })
+
+place-done : (w work p : List ℕ) (l : ℕ) → outcome w (place work p l) .number ≡ 0 → PlaceDone w work p l
+place-done w work p l z =
+    let d = done w (place work p l) z in
+    go (stepped w (record { key = p; loc = l })) refl (sym (ap (λ o. o .number) (d .1)) ∙ z) (ap (λ o. o .after .pool) (d .1)) (place-placing w work p l (d .0))
+  where
+    go : (o : Option State) → stepped w (record { key = p; loc = l }) ≡ o → placing o w .number ≡ 0 → outcome w (place work p l) .after .pool ≡ placing o w .after .pool
+        → Placing L (domains w) (pagesIn L w) (stateOf L w) (record { key = p; loc = l }) → PlaceDone w work p l
+    go none e z q h = absurd (omega arith)
+    go (some s) e z q h = record { state = s; is = e; pool = q; placed = placed-formed L (domains w) (pagesIn L w) (stateOf L w) s (record { key = p; loc = l }) h e }
+
+-- a done remove: its tests, the record that went, and the pool after it
+remove-steps : (w p : List ℕ) → outcome w (remove p) .number ≡ 0
+    → Passed w p × ((x : Spot) × (findWalk L w p .end ≡ here x)) × (outcome w (remove p) .after .pool ≡ printed L (domains w) (pagesIn L w) (removed (stateOf L w) p))
+remove-steps w p z =
+    let d = done w (remove p) z in
+    let g = go (findWalk L w p .end) refl (sym (ap (λ o. o .number) (d .1)) ∙ z) (ap (λ o. o .after .pool) (d .1)) in
+    (remove-passed w p (d .0), g .0, g .1)
+  where
+    go : (e : End) → findWalk L w p .end ≡ e → removing e w p .number ≡ 0 → outcome w (remove p) .after .pool ≡ removing e w p .after .pool
+        → ((x : Spot) × (findWalk L w p .end ≡ here x)) × (outcome w (remove p) .after .pool ≡ printed L (domains w) (pagesIn L w) (removed (stateOf L w) p))
+    go rootless q z r = absurd (omega arith)
+    go bad q z r = absurd (omega arith)
+    go (absent j) q z r = absurd (omega arith)
+    go (here x) q z r = ((x, q), r)
+
+-- a done place leaves a sound pool with one record more
+place-after : (w work p : List ℕ) (l : ℕ) → outcome w (place work p l) .number ≡ 0
+    → Sound L (outcome w (place work p l) .after .pool) × SameRecords (recordsOf (stateOf L (outcome w (place work p l) .after .pool))) (recordsOf (stateOf L w) ++ (record { key = p; loc = l } ∷ []))
+place-after w work p l z =
+    let h = place-done w work p l z in
+    let q : Rec = record { key = p; loc = l } in
+    let e = sym (h .pool) in (
+      subst (Sound L) e (printed-sound (domains w) (pagesIn L w) (h .state) (h .placed .formed)),
+      subst (λ v. SameRecords (recordsOf (stateOf L v)) (recordsOf (stateOf L w) ++ (q ∷ []))) e
+          (λ g. ap (λ t. tally g (recordsOf t)) (read-state L (domains w) (pagesIn L w) (h .state) big (h .placed .formed))
+          ∙ omega (arith, h .placed .held g, tally-append g (recordsOf (stateOf L w)) (q ∷ []))),
+    )
+
+-- a done format leaves no tree
+format-state : (w : List ℕ) (k : ℕ) → outcome w (format k) .number ≡ 0 → Sound L (outcome w (format k) .after .pool) × (stateOf L (outcome w (format k) .after .pool) ≡ none)
+format-state w k z =
+    let d = done w (format k) z in
+    let long = and-l (goodLength L w) _ (d .0) in
+    let formed = none-formed w k long (and-l (goodDomains k) _ (and-r (goodLength L w) _ (d .0))) in
+    let e : printed L k (pagesIn L w) none ≡ outcome w (format k) .after .pool = sym (ap (λ o. o .after .pool) (d .1) ∙ formatted-printed w k long) in
+    (subst (Sound L) e (printed-sound k (pagesIn L w) none formed), subst (λ v. stateOf L v ≡ none) e (read-state L k (pagesIn L w) none big formed))
+
+format-after : (w : List ℕ) (k : ℕ) → outcome w (format k) .number ≡ 0
+    → Sound L (outcome w (format k) .after .pool) × SameRecords (recordsOf (stateOf L (outcome w (format k) .after .pool))) []
+format-after w k z = let f = format-state w k z in (f .0, λ g. ap (λ s. tally g (recordsOf s)) (f .1))
+
+-- of the records with a key, those that pass a test and those that fail it
+keyed-halves : (p : Key) (g : Rec → Bool) (rs : List Rec) → tally (λ r. same p (r .key) && g r) rs + tally (λ r. same p (r .key) && not (g r)) rs ≡ tally (keyed p) rs
+keyed-halves p g [] = refl
+keyed-halves p g (r ∷ rs) = omega (arith, keyed-halves p g rs, go (same p (r .key)) (g r))
+  where
+    go : (s t : Bool) → bit (s && t) + bit (s && not t) ≡ bit s
+    go true true = refl
+    go true false = refl
+    go false t = refl
+
+-- a key that stands once: its record passes the test exactly if a record with the key does
+one-keyed : (p : Key) (g : Rec → Bool) (r : Rec) (rs : List Rec) → In r rs → r .key ≡ p → tally (keyed p) rs ≤ 1 → bit (g r) ≡ tally (λ q. same p (q .key) && g q) rs
+one-keyed p g r rs i e once =
+    let k : T (same p (r .key)) = rw e (same-refl p) in
+    let h = keyed-halves p g rs in
+    bool (g r)
+    (λ t. omega (arith, to-bit (g r) t, i .counted (λ q. same p (q .key) && g q) (and-i (same p (r .key)) _ k t)))
+    (λ n. omega (arith, no-bit (g r) (T-not (g r) n), i .counted (λ q. same p (q .key) && not (g q)) (and-i (same p (r .key)) _ k n)))
+
+-- a done remove leaves a sound pool without the record
+remove-after : (w p : List ℕ) → outcome w (remove p) .number ≡ 0
+    → Sound L (outcome w (remove p) .after .pool) × SameRecords (recordsOf (stateOf L (outcome w (remove p) .after .pool))) (change (remove p) (recordsOf (stateOf L w)))
+remove-after w p z =
+    let h = remove-steps w p z in
+    let k = domains w in
+    let N = pagesIn L w in
+    let s = stateOf L w in
+    let st = Sound-stands L w (h .0 .well) big in
+    let f = removed-formed L k N s p (st .formed) in
+    let e = sym (h .2) in
+    let once = key-once L k N s p (st .formed) in
+    let i = gone s st (passed-within w p (h .0)) (h .1 .0) (h .1 .1) in (
+      subst (Sound L) e (printed-sound k N (removed s p) (f .formed)),
+      subst (λ v. SameRecords (recordsOf (stateOf L v)) (change (remove p) (recordsOf s))) e
+          (λ g. ap (λ t. tally g (recordsOf t)) (read-state L k N (removed s p) big (f .formed))
+          ∙ omega (arith, f .less (h .1 .0 .rec) (i .1) (i .0) g, without-tally p g (recordsOf s) once, one-keyed p g (h .1 .0 .rec) (recordsOf s) (i .1) (i .0) once)),
+    )
+  where
+    gone : (s : State) → Stands L w s → T (within (whole (domains w)) p) → (x : Spot) → findWalk L w p .end ≡ here x → (x .rec .key ≡ p) × In (x .rec) (recordsOf s)
+    gone none st i x e = absurd (let z : _≡_ {A = ℕ} 0 1 = cc (find-rootless L w p st) in omega arith)
+    gone (some t) st i x e = subst (Answers (records t) p) e (find-answers L w p t st i)
+
+-- a call that left the pool as it was
+still-after : (w v : List ℕ) → Sound L w → v ≡ w → Sound L v × SameRecords (recordsOf (stateOf L v)) (recordsOf (stateOf L w))
+still-after w v s e = rw e (s, λ g. refl)
+
+-- one call on a sound pool
+pub call-after : (w : List ℕ) (c : Call) → Sound L w → After w c
+call-after w c s = go (outcome w c .number) refl
+  where
+    done-after : (c : Call) → outcome w c .number ≡ 0
+        → Sound L (outcome w c .after .pool) × SameRecords (recordsOf (stateOf L (outcome w c .after .pool))) (change c (recordsOf (stateOf L w)))
+    done-after (format k) z = format-after w k z
+    done-after check z = still-after w (outcome w check .after .pool) s (check-still w .still)
+    done-after (place work p l) z = place-after w work p l z
+    done-after (remove p) z = remove-after w p z
+    done-after (find p) z = still-after w (outcome w (find p) .after .pool) s (find-still w p .still)
+    done-after (list v a) z = still-after w (outcome w (list v a) .after .pool) s (list-still w v a .still)
+
+    go : (n : ℕ) → outcome w c .number ≡ n → After w c
+    go zero e = let d = done-after c e in record { sound = d .0; same = rw e (d .1) }
+    go (suc n) e =
+        let q = refusal-keeps w c .kept (λ z. omega arith) in
+        let d = still-after w (outcome w c .after .pool) s q in
+        record { sound = d .0; same = rw e (d .1) }
+
+-- the live records are the pool's, and the pool stays sound, over any calls; rs holds the pool's records by counts
+run-after : (w : List ℕ) (cs : List Call) (rs : List Rec) → Sound L w → SameRecords (recordsOf (stateOf L w)) rs
+    → Sound L (run w cs) × SameRecords (recordsOf (stateOf L (run w cs))) (live rs cs (answers w cs))
+run-after w [] rs s e = (s, e)
+run-after w (c ∷ cs) rs s e =
+    let a = call-after w c s in
+    let once : (p : Key) → tally (keyed p) (recordsOf (stateOf L w)) ≤ 1 = λ p. key-once L (domains w) (pagesIn L w) (stateOf L w) p (Sound-stands L w s big .formed) in
+    run-after (outcome w c .after .pool) cs (changed (outcome w c .number) c rs) (a .sound)
+    (λ g. a .same g ∙ changed-same (outcome w c .number) c (recordsOf (stateOf L w)) rs once e g)
+
+-- the pool after the calls is sound and holds the records rs, which are the live ones
+demand2-of : (w : List ℕ) (cs : List Call) {rs : List Rec} → Sound L (run w cs) × SameRecords (recordsOf (stateOf L (run w cs))) rs → rs ≡ liveAfter w cs → Demand2 w cs
+demand2-of w cs r e =
+    let v = run w cs in
+    let same : SameRecords (recordsOf (stateOf L v)) (liveAfter w cs) = subst (SameRecords (recordsOf (stateOf L v))) e (r .1) in
+    let once : (p : Key) → tally (keyed p) (liveAfter w cs) ≤ 1 =
+    λ p. omega (arith, same (keyed p), key-once L (domains v) (pagesIn L v) (stateOf L v) p (Sound-stands L v (r .0) big .formed)) in
+    record {
+      sound = r .0;
+      contents = same;
+      once = once;
+      lists = list-answers v (r .0) (liveAfter w cs) same;
+      finds = find-finds v (r .0) (liveAfter w cs) same once;
+    }
+
+-- Demand 2, from any sound pool
+pub demand2 : (w : List ℕ) (cs : List Call) → Sound L w → Demand2 w cs
+demand2 w cs s = demand2-of w cs (run-after w cs (recordsOf (stateOf L w)) s (λ g. refl)) refl
+
+-- from an accepted format, whatever the pool held before it
+pub demand2-format : (w : List ℕ) (k : ℕ) (cs : List Call) → outcome w (format k) .number ≡ 0 → Demand2 w (format k ∷ cs)
+demand2-format w k cs z =
+    let v = outcome w (format k) .after .pool in
+    let f = format-state w k z in
+    demand2-of w (format k ∷ cs) (run-after v cs [] (f .0) (λ g. ap (λ s. tally g (recordsOf s)) (f .1))) (ap (λ n. live (changed n (format k) (recordsOf (stateOf L w))) cs (answers v cs)) (sym z))
+
+-- any code whose calls keep their promises: the pool after them is the definitions', and so are the answers
+pub demand2-code : (w v : List ℕ) (cs : List Call) (os : List Outcome) → Sound L w → Keeps w cs os v
+    → Demand2 w cs × (v ≡ run w cs) × (map answerOf os ≡ answers w cs)
+demand2-code w v cs os s k = let r = keeps-run k in (demand2 w cs s, r .0, r .1)
+
+pub demand2-code-format : (w v : List ℕ) (k : ℕ) (cs : List Call) (os : List Outcome) → outcome w (format k) .number ≡ 0 → Keeps w (format k ∷ cs) os v
+    → Demand2 w (format k ∷ cs) × (v ≡ run w (format k ∷ cs)) × (map answerOf os ≡ answers w (format k ∷ cs))
+demand2-code-format w v k cs os z q = let r = keeps-run q in (demand2-format w k cs z, r .0, r .1)
+
+-- the steps are Robinson's
+pub by-the-steps : (w : List ℕ) → ByTheSteps w
+by-the-steps w =
+    record {
+      formats = λ k z. format-state w k z .1;
+      places = λ work p l z.
+          let h = place-done w work p l z in
+          (h .state, h .is, h .pool, ap (stateOf L) (h .pool) ∙ read-state L (domains w) (pagesIn L w) (h .state) big (h .placed .formed));
+      removes = λ p z.
+          let h = remove-steps w p z in
+          let st = Sound-stands L w (h .0 .well) big in
+          (h .2, ap (stateOf L) (h .2) ∙ read-state L (domains w) (pagesIn L w) (removed (stateOf L w) p) big (removed-formed L (domains w) (pagesIn L w) (stateOf L w) p (st .formed) .formed));
+    }
+
+-- Demand 3, on a sound pool
+module _ (w : List ℕ) (s : Sound L w) where
+  st : Stands L w (stateOf L w)
+  st = Sound-stands L w s big
+
+  walked-list : (v slots : List ℕ) → T (goodWindow (domains w) v) → walkOf w (list v slots) ≡ listWalk L w (windowOf (domains w) v) .read
+  walked-list v slots h = ap (λ b. cond b (listWalk L w (windowOf (domains w) v) .read) []) (is-true (begins w (list v slots)) (list-begins w s v slots h))
+
+  returned : (v slots : List ℕ) → T (goodWindow (domains w) v) → getD (outcome w (list v slots) .values) 1 0 ≡ length (walkOf w (list v slots))
+  returned v slots h = ap (λ l. getD l 1 0) (list-returns w v slots (list-answers w s (recordsOf (stateOf L w)) (λ g. refl) v slots h .done) .1)
+
+  pub demand3 : Demand3 w
+  demand3 =
+      record {
+        reads = λ v slots h j.
+            subst (λ l. (1 ≤ many j l) ↔ Shares (windowOf (domains w) v) (ownRegion L w j)) (sym (walked-list v slots h))
+            (list-reads L w (windowOf (domains w) v) (stateOf L w) st (good-meets (domains w) v h) j);
+        once = λ v slots h j. subst (λ l. many j l ≤ 1) (sym (walked-list v slots h)) (list-once L w (windowOf (domains w) v) (stateOf L w) st j);
+        count = λ v slots h.
+            returned v slots h ∙ (ap length (walked-list v slots h) ∙ list-count L w (windowOf (domains w) v) (stateOf L w) st (good-meets (domains w) v h));
+        point = λ p slots h.
+            let k = domains w in
+            let e = eqb→eq (length p) k (and-l (eqb (length p) k) _ h) in
+            returned (p ++ p) slots (point-good k p h) ∙ (ap length (walked-list (p ++ p) slots (point-good k p h))
+            ∙ point-reads L w p (stateOf L w) st e (and-r (eqb (length p) k) _ h));
+        levelled = λ p z.
+            let d = done w (find p) z in
+            let t3 = and-r (goodHeader L w) _ (and-r (goodLength L w) _ (d .0)) in
+            let e = eqb→eq (length p) (domains w) (and-l (eqb (length p) (domains w)) _ t3) in
+            let f = and-l (finite p) _ (and-r (eqb (length p) (domains w)) _ t3) in
+            ap (λ l. getD l 1 0) (find-returns w p z .2) ∙ (ap (λ b. length (cond b (findWalk L w p .read) [])) (is-true (begins w (find p)) (d .0))
+            ∙ find-reads L w p (stateOf L w) st (finite-whole (domains w) p e f));
+        path = λ p slots h.
+            let k = domains w in
+            let e = eqb→eq (length p) k (and-l (eqb (length p) k) _ h) in
+            ap (λ b. cond b (findWalk L w p .read) []) (is-true (begins w (find p)) (find-begins w s p h))
+            ∙ (point-path L w p (stateOf L w) st e (and-r (eqb (length p) k) _ h) ∙ sym (walked-list (p ++ p) slots (point-good k p h)));
+      }
+
+-- Demand 3, on any words
+pub bounded : (w : List ℕ) → Bounded w
+bounded w =
+    record {
+      most = walk-bound w;
+      found = λ p z. ap (λ l. getD l 1 0) (find-returns w p z .2);
+      listed = λ v slots z. ap (λ l. getD l 1 0) (list-returns w v slots z .1);
+    }
+
+-- 9 exactly if the steps would claim more pages than are free, once place has passed its tests
+pub nine-iff : (w work p : List ℕ) (l : ℕ) → T (begins w (place work p l))
+    → (outcome w (place work p l) .number ≡ 9)
+    ↔ (length (freeOf (pagesIn L w) (pagesOf (stateOf L w))) < claims (domains w) (regionsPer L (domains w)) (pointsPer L (domains w)) (pagesIn L w) (stateOf L w) (record { key = p; loc = l }))
+nine-iff w work p l h =
+    let q : Rec = record { key = p; loc = l } in
+    let o = goes-on w (place work p l) h in
+    let i = placed-none-iff L (domains w) (pagesIn L w) (stateOf L w) q (place-placing w work p l h) in
+    (λ z. i .0 (short (stepped w q) (sym (ap (λ x. x .number) o) ∙ z)), λ m. ap (λ x. x .number) o ∙ ap (λ s. placing s w .number) (i .1 m))
+  where
+    short : (s : Option State) → placing s w .number ≡ 9 → s ≡ none
+    short none z = refl
+    short (some s) z = absurd (omega arith)
+
+-- Demand 1: what the refusals mean
+module _ (w p : List ℕ) (h : Passed w p) where
+  -- find's walk by the records of a sound pool
+  by-records : (P : End → Type 0) → (tally (keyed p) (recordsOf (stateOf L w)) ≡ 0 → P rootless) → ((j : ℕ) → tally (keyed p) (recordsOf (stateOf L w)) ≡ 0 → P (absent j))
+      → ((x : Spot) → x .rec .key ≡ p → In (x .rec) (recordsOf (stateOf L w)) → P (here x)) → P (findWalk L w p .end)
+  by-records P r a x = go (stateOf L w) (Sound-stands L w (h .well) big) r a x
+    where
+      by-end : (rs : List Rec) (e : End) → Answers rs p e → ((j : ℕ) → tally (keyed p) rs ≡ 0 → P (absent j)) → ((x : Spot) → x .rec .key ≡ p → In (x .rec) rs → P (here x)) → P e
+      by-end rs rootless q a x = absurd q
+      by-end rs bad q a x = absurd q
+      by-end rs (absent j) q a x = a j q
+      by-end rs (here y) q a x = x y (q .0) (q .1)
+
+      go : (s : State) → Stands L w s → (tally (keyed p) (recordsOf s) ≡ 0 → P rootless) → ((j : ℕ) → tally (keyed p) (recordsOf s) ≡ 0 → P (absent j))
+          → ((x : Spot) → x .rec .key ≡ p → In (x .rec) (recordsOf s) → P (here x)) → P (findWalk L w p .end)
+      go none st r a x = subst P (sym (find-rootless L w p st)) (r refl)
+      go (some t) st r a x = by-end (records t) (findWalk L w p .end) (find-answers L w p t st (passed-within w p h)) a x
+
+  counts : (r : Rec) → r .key ≡ p → In r (recordsOf (stateOf L w)) → 1 ≤ tally (keyed p) (recordsOf (stateOf L w))
+  counts r e i = i .counted (keyed p) (rw e (same-refl p))
+
+  present-iff : T (present (findWalk L w p .end)) ↔ (1 ≤ tally (keyed p) (recordsOf (stateOf L w)))
+  present-iff =
+      by-records (λ e. T (present e) ↔ (1 ≤ tally (keyed p) (recordsOf (stateOf L w)))) (λ z. (λ t. absurd t, λ n. absurd (omega arith))) (λ j z. (λ t. absurd t, λ n. absurd (omega arith)))
+      (λ x e i. (λ t. counts (x .rec) e i, λ n. tt))
+
+good-passed : (w p : List ℕ) → Sound L w → T (goodPoint (domains w) p) → Passed w p
+good-passed w p s h = record { long = eqb→eq (length p) (domains w) (and-l (eqb (length p) (domains w)) _ h); ends = and-r (eqb (length p) (domains w)) _ h; well = s }
+
+remove-begins : (w p : List ℕ) → Sound L w → T (goodPoint (domains w) p) → T (begins w (remove p))
+remove-begins w p s h =
+    let i = eqb (length p) (domains w) in
+    and-i (goodLength L w) _ (s .words) (and-i (goodHeader L w) _ (s .header) (and-i i _ (and-l i _ h) (and-i (finite p) _ (and-r i _ h) (and-i (sound L w) true (sound-iff L big w .1 s) tt))))
+
+check-six : (w : List ℕ) → T (goodLength L w) → (outcome w check .number ≡ 6) ↔ (Sound L w → ⊥)
+unfolding outcome
+check-six w t = (
+  λ z s. let e = goes-on w check (and-i (goodLength L w) _ t (and-i (goodHeader L w) _ (s .header) (and-i (sound L w) true (sound-iff L big w .1 s) tt))) in
+      omega (arith, ap (λ o. o .number) e),
+  λ n. go (goodLength L w) (goodHeader L w) (sound L w) t (λ c. n (sound-iff L big w .0 c)),
+)
+  where
+    go : (a b c : Bool) → T a → (T c → ⊥) → judge ((a or 1) ∷ (b or 6) ∷ (c or 6) ∷ []) (lent w check) (core w check) .number ≡ 6
+    go false b c t n = absurd t
+    go true false c t n = refl
+    go true true false t n = refl
+    go true true true t n = absurd (n tt)
+
+-- place's tests up to 7
+place-seven : (w work p : List ℕ) (l : ℕ) → Sound L w → T (goodPoint (domains w) p) → length work ≡ length w
+    → outcome w (place work p l) ≡ unless (not (present (findWalk L w p .end))) 7 (lent w (place work p l)) (core w (place work p l))
+unfolding outcome
+place-seven w work p l s h e =
+    let i = eqb (length p) (domains w) in
+    let j = eqb (length work) (length w) in
+    judge-past
+    ((goodLength L w or 1) ∷ (goodHeader L w or 6) ∷ ((i && j) or 3) ∷ (finite p or 4) ∷ (sound L w or 6) ∷ [])
+    ((not (present (findWalk L w p .end)) or 7) ∷ []) (lent w (place work p l)) (core w (place work p l))
+    (and-i (goodLength L w) _ (s .words) (and-i (goodHeader L w) _ (s .header) (and-i (i && j) _ (and-i i j (and-l i _ h) (of-true j (eq-eqb (length work) (length w) e)))
+    (and-i (finite p) _ (and-r i _ h) (and-i (sound L w) true (sound-iff L big w .1 s) tt)))))
+
+placing-number : (w : List ℕ) (o : Option State) → placing o w .number ≡ 7 → ⊥
+placing-number w none z = omega arith
+placing-number w (some s) z = omega arith
+
+unless-seven : (t : Bool) (b : Buffers) (o : Outcome) → (o .number ≡ 7 → ⊥) → (unless (not t) 7 b o .number ≡ 7) ↔ T t
+unless-seven true b o n = (λ z. tt, λ t. refl)
+unless-seven false b o n = (λ z. absurd (n z), λ t. absurd t)
+
+-- remove's outcome by the records
+module _ (w p : List ℕ) (s : Sound L w) (h : T (goodPoint (domains w) p)) where
+  remove-is : outcome w (remove p) ≡ removing (findWalk L w p .end) w p
+  remove-is = goes-on w (remove p) (remove-begins w p s h)
+
+  remove-eight : (outcome w (remove p) .number ≡ 8) ↔ (tally (keyed p) (recordsOf (stateOf L w)) ≡ 0)
+  remove-eight =
+      subst (λ o. (o .number ≡ 8) ↔ (tally (keyed p) (recordsOf (stateOf L w)) ≡ 0)) (sym remove-is)
+      (by-records w p (good-passed w p s h) (λ e. (removing e w p .number ≡ 8) ↔ (tally (keyed p) (recordsOf (stateOf L w)) ≡ 0)) (λ z. (λ _. z, λ _. refl)) (λ j z. (λ _. z, λ _. refl))
+      (λ x e i. (λ z. absurd (omega arith), λ z. absurd (omega (arith, counts w p (good-passed w p s h) (x .rec) e i)))))
+
+  remove-gone : (l : ℕ) → 1 ≤ tally (λ r. same p (r .key) && eqb l (r .loc)) (recordsOf (stateOf L w)) → (outcome w (remove p) .number ≡ 0) × (outcome w (remove p) .values ≡ l ∷ [])
+  remove-gone l n =
+      let rs = recordsOf (stateOf L w) in
+      let some-keyed : 1 ≤ tally (keyed p) rs = omega (arith, tally-imp (λ r. same p (r .key) && eqb l (r .loc)) (keyed p) (λ r. and-l (same p (r .key)) (eqb l (r .loc))) rs) in
+      let once = key-once L (domains w) (pagesIn L w) (stateOf L w) p (Sound-stands L w s big .formed) in
+      subst (λ o. (o .number ≡ 0) × (o .values ≡ l ∷ [])) (sym remove-is)
+      (by-records w p (good-passed w p s h) (λ e. (removing e w p .number ≡ 0) × (removing e w p .values ≡ l ∷ [])) (λ z. absurd (omega arith)) (λ j z. absurd (omega arith))
+      (λ x e i. (refl, ap (λ m. m ∷ []) (one-located p l (x .rec) rs i e once n))))
+
+pub demand1 : (w : List ℕ) → Demand1 w
+demand1 w =
+    record {
+      six = check-six w;
+      seven = λ work p l s h e.
+          let u = unless-seven (present (findWalk L w p .end)) (lent w (place work p l)) (core w (place work p l)) (placing-number w (stepped w (record { key = p; loc = l }))) in
+          let q = place-seven w work p l s h e in
+          let i = present-iff w p (good-passed w p s h) in
+          (λ z. i .0 (u .0 (sym (ap (λ o. o .number) q) ∙ z)), λ n. ap (λ o. o .number) q ∙ u .1 (i .1 n));
+      eight = λ p s h. remove-eight w p s h;
+      gone = λ p l s h n. remove-gone w p s h l n;
+    }

@@ -1,0 +1,233 @@
+-- List's walk as code makes it is the definition's: a state that goes through two tours in turn ends as after both joined, stopped at the bound.
+use mathlib.Core.Bool.{Bool, true, false, not, _&&_, cond}
+use mathlib.Core.List.{List, [], _∷_, _++_, map}
+use mathlib.Core.Path.{_≡_, refl, sym, ap, _∙_}
+use Prim.Native.Nat.{ℕ, zero, suc, _+_, _-_, _*_, _<_, _≤_}
+use native.Mathlib.Omega.{arith}
+use native.Mathlib.Numerals.{add-one}
+use native.Mathlib.Nat.{add-zero, zero-add}
+use lib.Dec.{leb, ltb, eqb}
+use lib.ListN.{length, take, drop, getD, set, length-append, length-take, length-map}
+use lib.Seq.{sets}
+use borrow.Author.Tests.{lt-ltb, le-ltb, ltb-true, ltb-false, eq-eqb, ne-eqb}
+use Rattle.kdb.specs.Lists.{only}
+use Rattle.kdb.specs.Box.{Box, inWindow, meets}
+use Rattle.kdb.specs.Pages.{readRecs, readEnts, recsIn, entsIn}
+use Rattle.kdb.specs.Pool.{levelsAt, rootAt, pagesIn, view}
+use Rattle.kdb.specs.Walk.{Spot, spots, Tour, still, astray, badAt, readAt, follow, through, isPage, goodPoints, goodRegions, tour, bounded, listWalk}
+use Rattle.kdb.specs.Calls.{L}
+use Rattle.kdb.proofs.Lists.{and-t, sets-append}
+use Rattle.kdb.proofs.Words.{rec-turn, ent-turn}
+use Rattle.words.specs.Words.{wordAt, pointAt, pointLocation, keysOf, regionAt}
+use Rattle.words.proofs.Laws.{pages}
+use Rattle.walk.specs.declared.Tally.{Tally}
+use Rattle.walk.specs.Pages.{Fit, regionWords, pointWords, RegionPage, PointPage}
+use Rattle.walk.specs.List.{St, stopped, going, seen, Fair, arrived, locations, noted, held, foundIn, after, walked}
+use Rattle.walk.proofs.Pages.{slot-next, is-page, regions-good, points-good, region-page, point-page}
+
+locations-append : (a b : List Spot) → locations (a ++ b) ≡ locations a ++ locations b
+locations-append [] b = refl
+locations-append (s ∷ a) b = ap (λ l. s .rec .loc ∷ l) (locations-append a b)
+
+abbrev made : List ℕ → Bool → List Spot → Tour
+made rs bad fs = record { read = rs; bad = bad; found = fs }
+
+module _ (N r m : ℕ) (out ra : List ℕ) (fa : List Spot) where
+  -- a first tour that met a bad page ends the walk
+  after-bad : (ends : Bool) → ltb (r + length ra) N ≡ ends → (b : Tour) → after N (going r m out) (made ra true fa) ≡ after N (after N (going r m out) (made ra true fa)) b
+  after-bad true e b = rw e
+  after-bad false e b = rw e
+
+  -- and one that met none is gone on from
+  after-good : (rb : List ℕ) (bb : Bool) (fb : List Spot) (ends : Bool) → ltb (r + length ra) N ≡ ends
+      → after N (going r m out) (follow (made ra false fa) (made rb bb fb)) ≡ after N (after N (going r m out) (made ra false fa)) (made rb bb fb)
+  after-good rb bb fb true e =
+      let reads : r + length (ra ++ rb) ≡ r + length ra + length rb = omega (arith, length-append ra rb) in
+      let total : m + length (fa ++ fb) ≡ m + length fa + length fb = omega (arith, length-append fa fb) in
+      let slots : sets out m (locations (fa ++ fb)) ≡ sets (sets out m (locations fa)) (m + length fa) (locations fb)
+      = rw (locations-append fa fb, ← sets-append out m (locations fa) (locations fb), length-map fa (λ s. s .rec .loc)) in
+      rw (reads, total, slots, e)
+  after-good rb bb fb false e =
+      let reads : r + length (ra ++ rb) ≡ r + length ra + length rb = omega (arith, length-append ra rb) in
+      let over : ltb (r + length ra + length rb) N ≡ false = le-ltb (r + length ra + length rb) N (omega (arith, ltb-false (r + length ra) N e)) in
+      rw (reads, over, e)
+
+pub after-follow : (N : ℕ) (s : St) (a b : Tour) → after N s (follow a b) ≡ after N (after N s a) b
+after-follow N (stopped r) a b = refl
+after-follow N (going r m out) a b = go (a .bad)
+  where
+    go : (bad : Bool) → after N (going r m out) (follow (made (a .read) bad (a .found)) b) ≡ after N (after N (going r m out) (made (a .read) bad (a .found))) b
+    go true = after-bad N r m out (a .read) (a .found) (ltb (r + length (a .read)) N) refl b
+    go false = after-good N r m out (a .read) (a .found) (b .read) (b .bad) (b .found) (ltb (r + length (a .read)) N) refl
+
+pub after-still : (N : ℕ) (s : Tally) (out : List ℕ) → Fair N s → after N (seen s out) still ≡ seen s out
+after-still N s out g = go (s .bad)
+  where
+    go : (bad : Bool) → after N (cond bad (stopped (s .reads)) (going (s .reads) (s .total) out)) still ≡ cond bad (stopped (s .reads)) (going (s .reads) (s .total) out)
+    go true = refl
+    go false = rw (add-zero (s .reads), lt-ltb _ _ (g .few), add-zero (s .total))
+
+-- reaching page j: `is` says that it is a page, `good` that the walk takes it
+abbrev reaching : ℕ → Bool → Bool → Tour → Tour
+reaching j is good below = cond is (cond good (follow (readAt j []) below) (badAt j)) astray
+
+-- the state at page j: `more` says that the bound allows one more
+abbrev reached : Tally → Bool → Bool → Bool → Bool → Tally
+reached s bad is more good =
+    cond (not bad && is && more) (record { reads = s .reads + 1; total = s .total; bad = not good }) (record { reads = s .reads; total = s .total; bad = true })
+
+module _ (N : ℕ) (s : Tally) (out : List ℕ) (g : Fair N s) (j : ℕ) (b : Tour) where
+  abbrev was : Bool → St
+  was bad = cond bad (stopped (s .reads)) (going (s .reads) (s .total) out)
+
+  reach : (bad is more good : Bool) → ltb (s .reads + 1) N ≡ more → after N (was bad) (reaching j is good b) ≡ after N (seen (reached s bad is more good) out) b
+  reach true is more good e = refl
+  reach false false more good e = rw (add-zero (s .reads), lt-ltb _ _ (g .few))
+  reach false true true true e = after-follow N (was false) (readAt j []) b ∙ rw (e, add-zero (s .total))
+  reach false true true false e = rw e
+  reach false true false true e =
+      let last : N - 1 ≡ s .reads = omega (arith, ltb-false (s .reads + 1) N e, g .few) in after-follow N (was false) (readAt j []) b ∙ rw (e, last)
+  reach false true false false e = let last : N - 1 ≡ s .reads = omega (arith, ltb-false (s .reads + 1) N e, g .few) in rw (e, last)
+
+-- a walk that goes on from page j has a good page j, one more read, and the total that it had
+pub record GoesOn (n j : ℕ) (good : Bool) (s t : Tally) : Type 0 where
+  pub is : leb 1 j && ltb j n ≡ true
+  pub takes : good ≡ true
+  pub reads : t .reads ≡ s .reads + 1
+  pub total : t .total ≡ s .total
+
+pub goes-on : (n j : ℕ) (good : Bool) (s t : Tally) → t ≡ arrived n j good s → t .bad ≡ false → GoesOn n j good s t
+goes-on n j good s t e h = go (s .bad) (leb 1 j && ltb j n) refl (ltb (s .reads + 1) n) good refl e
+  where
+    wrong : {A : Type 0} → t .bad ≡ true → A
+    wrong z = absurd (let y : _≡_ {A = ℕ} 0 1 = cc in omega arith)
+
+    go : (bad is : Bool) → leb 1 j && ltb j n ≡ is → (more ok : Bool) → good ≡ ok → t ≡ reached s bad is more ok → GoesOn n j good s t
+    go true is p more ok q z = wrong (ap (λ u. u .bad) z)
+    go false false p more ok q z = wrong (ap (λ u. u .bad) z)
+    go false true p false ok q z = wrong (ap (λ u. u .bad) z)
+    go false true p true true q z = record { is = p; takes = q; reads = ap (λ u. u .reads) z; total = ap (λ u. u .total) z }
+    go false true p true false q z = wrong (ap (λ u. u .bad) z)
+
+-- total and slots after a record
+module _ (w : List ℕ) (k : ℕ) (v : Box) (j c e t : ℕ) (out : List ℕ) (x : ℕ × List ℕ) where
+  abbrev sees : Bool
+  sees = inWindow v (keysOf k w j e)
+
+  abbrev rest : List Spot
+  rest = held w k v j (c - (e + 1)) (e + 1) (pointAt k j (e + 1))
+
+  abbrev spot : Spot
+  spot = record { page = j; slot = e; rec = record { key = keysOf k w j e; loc = pointLocation w k j e } }
+
+  pub note-end : noted t out (held w k v j (c - e) e (pointAt k j e)) ≡ x → c ≤ e → (t, out) ≡ x
+  note-end q h = let z : c - e ≡ 0 = omega arith in rw add-zero at (rw z at q)
+
+  pub note-next : noted t out (held w k v j (c - e) e (pointAt k j e)) ≡ x → e < c
+      → noted (cond sees (t + 1) t) (cond sees (set out t (pointLocation w k j e)) out) rest ≡ x
+  note-next q h = go sees ∙ (rw (rec-turn k c e w (pointAt k j e) h, ← add-one e, ← slot-next k j e) at q)
+    where
+      go : (b : Bool) → noted (cond b (t + 1) t) (cond b (set out t (pointLocation w k j e)) out) rest ≡ noted t out (cond b (spot ∷ rest) rest)
+      go true = let z : t + 1 + length rest ≡ t + suc (length rest) = omega arith in rw (z, add-one t)
+      go false = refl
+
+-- a stopped walk stays as it is; one that goes on notes what it finds in a page
+abbrev finds : List Spot → Tour
+finds found = made [] false found
+
+stays : (n : ℕ) (t : Tally) (out : List ℕ) (b : Tour) → t .bad ≡ true → after n (seen t out) b ≡ seen t out
+stays n t out b h = rw h
+
+notes : (n : ℕ) (t : Tally) (out : List ℕ) (ss : List Spot) → t .bad ≡ false → Fair n t
+    → after n (seen t out) (finds ss) ≡ going (t .reads) (noted (t .total) out ss .0) (noted (t .total) out ss .1)
+notes n t out ss h g = rw (h, add-zero (t .reads), lt-ltb _ _ (g .few))
+
+-- the walk's levels
+module _ (w : List ℕ) (n k : ℕ) (f : Fit w n k) (v : Box) (j : ℕ) (s : Tally) (g : Fair n s) (out : List ℕ) where
+  -- the tour of a page of either kind, by the words' test in place of the view's
+  reaches : (is good good′ : Bool) (b : Tour) → is ≡ leb 1 j && ltb j n → (is ≡ true → good ≡ good′)
+      → after n (seen s out) (reaching j is good b) ≡ after n (seen (arrived n j good′ s) out) b
+  reaches true good good′ b p e = rw (e refl) (reach n s out g j b (s .bad) true (ltb (s .reads + 1) n) good′ refl ∙ rw p)
+  reaches false good good′ b p e = reach n s out g j b (s .bad) false (ltb (s .reads + 1) n) good′ refl ∙ rw p
+
+  -- the last level's page
+  leaf : after n (seen s out) (tour L w v 0 j)
+      ≡ after n (seen (arrived n j (pointWords w k j) s) out) (finds (only (λ q. inWindow v (q .rec .key)) (spots j 0 (recsIn (view L w j)))))
+  leaf = reaches (isPage L w j) (goodPoints L w j) (pointWords w k j) _ (is-page w n k j f) (λ h. points-good w n k j f (sym (is-page w n k j f) ∙ h))
+
+  module _ (t : Tally) (e : t ≡ arrived n j (pointWords w k j) s) where
+    leaf-from : after n (seen s out) (tour L w v 0 j) ≡ after n (seen t out) (finds (only (λ q. inWindow v (q .rec .key)) (spots j 0 (recsIn (view L w j)))))
+    leaf-from = rw e leaf
+
+    pub leaf-bad : t .bad ≡ true → stopped (t .reads) ≡ after n (seen s out) (tour L w v 0 j)
+    leaf-bad h = sym (leaf-from ∙ stays n t out _ h ∙ rw h)
+
+    pub leaf-page : t .bad ≡ false → PointPage w k j × (recsIn (view L w j) ≡ readRecs k (wordAt w j 1) (drop (L * j + 4) w))
+    leaf-page h = let z = goes-on n j (pointWords w k j) s t e h in point-page w n k j f (z .is) (z .takes)
+
+    pub leaf-good : t .bad ≡ false → Fair n t → (r : ℕ) (out′ : List ℕ) → (r, out′) ≡ foundIn w k v j (t .total) out
+        → going (t .reads) r out′ ≡ after n (seen s out) (tour L w v 0 j)
+    leaf-good h a r out′ q =
+        ap (λ p. going (t .reads) (p .0) (p .1)) q
+        ∙ ap (λ rs. going (t .reads) (noted (t .total) out (only (λ p. inWindow v (p .rec .key)) (spots j 0 rs)) .0) (noted (t .total) out (only (λ p. inWindow v (p .rec .key)) (spots j 0 rs)) .1))
+        (sym (leaf-page h .1))
+        ∙ sym (leaf-from ∙ notes n t out (only (λ p. inWindow v (p .rec .key)) (spots j 0 (recsIn (view L w j)))) h a)
+
+  -- a region page, l levels from it on
+  module _ (l : ℕ) (m : 1 < l) where
+    abbrev below : ℕ → Tour
+    below = tour L w v (l - 1 - 1)
+
+    page : after n (seen s out) (tour L w v (l - 1) j) ≡ after n (seen (arrived n j (regionWords w k j) s) out) (through below v (entsIn (view L w j)))
+    page =
+        let q : l - 1 ≡ suc (l - 1 - 1) = omega arith in
+        ap (λ (i : ℕ). after n (seen s out) (tour L w v i j)) q
+        ∙ reaches (isPage L w j) (goodRegions L w j) (regionWords w k j) _ (is-page w n k j f) (λ h. regions-good w n k j f (sym (is-page w n k j f) ∙ h))
+
+    module _ (t : Tally) (e : t ≡ arrived n j (regionWords w k j) s) where
+      page-from : after n (seen s out) (tour L w v (l - 1) j) ≡ after n (seen t out) (through below v (entsIn (view L w j)))
+      page-from = rw e page
+
+      pub page-bad : t .bad ≡ true → seen t out ≡ after n (seen s out) (tour L w v (l - 1) j)
+      page-bad h = sym (page-from ∙ stays n t out _ h)
+
+      pub page-in : t .bad ≡ false → RegionPage w k j × (entsIn (view L w j) ≡ readEnts k (wordAt w j 1) (drop (L * j + 4) w))
+      page-in h = let z = goes-on n j (regionWords w k j) s t e h in region-page w n k j f (z .is) (z .takes)
+
+      pub page-good : t .bad ≡ false
+          → after n (seen t out) (through below v (readEnts k (wordAt w j 1) (drop (L * j + 4) w))) ≡ after n (seen s out) (tour L w v (l - 1) j)
+      page-good h = ap (λ es. after n (seen t out) (through below v es)) (sym (page-in h .1)) ∙ sym page-from
+
+-- the entries from word a on
+module _ (n k c e : ℕ) (w : List ℕ) (below : ℕ → Tour) (v : Box) (a : ℕ) (u : Tally) (out : List ℕ) (x : St) where
+  pub entries-end : after n (seen u out) (through below v (readEnts k (c - e) (drop a w))) ≡ x → c ≤ e → Fair n u → seen u out ≡ x
+  entries-end q h g = let z : c - e ≡ 0 = omega arith in sym (after-still n u out g) ∙ (rw z at q)
+
+  pub entries-next : after n (seen u out) (through below v (readEnts k (c - e) (drop a w))) ≡ x → e < c → (u′ : Tally) (out′ : List ℕ)
+      → seen u′ out′ ≡ after n (seen u out) (cond (meets (regionAt k w a) v) (below (getD w (a + 2 * k) 0)) still)
+      → after n (seen u′ out′) (through below v (readEnts k (c - (e + 1)) (drop (a + (2 * k + 1)) w))) ≡ x
+  entries-next q h u′ out′ t =
+      let es = readEnts k (c - (e + 1)) (drop (a + (2 * k + 1)) w) in
+      rw t (sym (after-follow n (seen u out) (cond (meets (regionAt k w a) v) (below (getD w (a + 2 * k) 0)) still) (through below v es)) ∙ (rw (ent-turn k c e w a h) at q))
+
+-- the whole walk
+pub bound : (w : List ℕ) (N : ℕ) (t : Tour) (out : List ℕ) → 1 ≤ N → after N (going 0 0 out) t ≡ walked out (bounded L w N t)
+bound w N t out h = go (ltb (length (t .read)) N) refl
+  where
+    go : (b : Bool) → ltb (length (t .read)) N ≡ b → after N (going 0 0 out) t ≡ walked out (bounded L w N t)
+    go true e = rw (zero-add (length (t .read)), zero-add (length (t .found)), e)
+    go false e =
+        let z : length (take (N - 1) (t .read)) ≡ N - 1 = omega (arith, length-take (N - 1) (t .read), ltb-false (length (t .read)) N e) in
+        rw (zero-add (length (t .read)), e, z)
+
+module _ (w : List ℕ) (n k : ℕ) (f : Fit w n k) (v : Box) (out : List ℕ) where
+  pub walk-none : levelsAt w ≡ 0 → going 0 0 out ≡ walked out (listWalk L w v)
+  walk-none z = rw z
+
+  pub walk-some : (levelsAt w ≡ 0 → ⊥) → after n (going 0 0 out) (tour L w v (levelsAt w - 1) (rootAt w)) ≡ walked out (listWalk L w v)
+  walk-some z =
+      rw (ne-eqb (levelsAt w) 0 z) (bound w n (tour L w v (levelsAt w - 1) (rootAt w)) out (omega (arith, f .paged .least))
+      ∙ ap (λ (N : ℕ). walked out (bounded L w N (tour L w v (levelsAt w - 1) (rootAt w)))) (sym (pages w n (f .paged))))
+
+pub more-room : (n : ℕ) (b : Bool) (s : Tally) → b && ltb (s .reads + 1) n ≡ true → s .reads + 1 < n
+more-room n b s t = ltb-true (s .reads + 1) n (and-t b (ltb (s .reads + 1) n) t .1)

@@ -1,0 +1,70 @@
+-- `walk::list_points` meets its contract: total and slots, with what is left of the records, are those of the whole.
+use Rattle.walk.proofs.List.{note-end, note-next}
+use Rattle.walk.proofs.Pages.{slot-in, slot-first, count-few}
+use Rattle.walk.specs.List.{noted, held, foundIn}
+use Rattle.words.specs.Words.{wordAt, pointAt}
+use Rattle.kdb.specs.Calls.{windowOf}
+use lib.ListN.{length}
+use native.Mathlib.Nat.{sub-zero}
+use mathlib.Core.Path.{_≡_, refl, _∙_}
+use Prim.Native.Nat.{_+_, _-_, _≤_}
+use borrow.Author.Needs.{needs}
+use native.Mathlib.Omega.{arith}
+use Rattle.walk.proofs.list_points.Statement.{statement}
+use Rattle.walk.proofs.list_points.Tie as tie
+
+abbrev Inv-loop : tie.InvT-loop
+Inv-loop pool k window answer₀ j total count t₀ e₀ answer t e = (e ≤ count) × (count ≡ wordAt pool j 1) × (t ≤ total + e) × (length answer ≡ length answer₀)
+    × (noted t answer (held pool k (windowOf k window) j (count - e) e (pointAt k j e)) ≡ foundIn pool k (windowOf k window) j total answer₀)
+
+abbrev μ-loop : tie.MeasureT-loop
+μ-loop pool k window answer₀ j total count t₀ e₀ answer t e = count - e
+
+word-requires : tie.Need-word-requires Inv-loop μ-loop
+word-requires c κs = search needs
+
+loop-holds : tie.Need-loop-holds Inv-loop μ-loop
+loop-holds c = let a = c .before .before .before .before .args in
+    (omega arith, c .word .ensures .0, omega arith, refl, rw (sub-zero (c .word .result), c .word .ensures .0, slot-first (a .k) (a .j)))
+
+visit-requires : tie.Need-visit-requires Inv-loop μ-loop
+visit-requires c κs = let a = c .before .before .before .before .before .before .before .args in
+    (slot-in (a .pool .now) (a .k) (a .j) (c .before .before .loop .e) (c .before .before .before .before .before .before .before .pre .0) (rw (c .before .before .loop .inv .1) at (c .before .loop-test .taken)), (c .before .before .before .before .before .before .before .pre .1 .0, omega (arith, c .before .before .before .before .before .before .before .pre .1 .1, c .before .before .loop .inv, count-few (a .pool .now) (a .k) (a .j) (c .before .before .before .before .before .before .before .pre .0))))
+
+add-e : tie.Need-add-e Inv-loop μ-loop
+add-e c = search needs
+
+loop-less : tie.Need-loop-less Inv-loop μ-loop
+loop-less c = search needs
+
+loop-again : tie.Need-loop-again Inv-loop μ-loop
+loop-again c = let i = c .before .before .before .before .before .loop .inv in
+    let a = c .before .before .before .before .before .before .before .before .before .before .args in (
+      omega arith,
+      i .1,
+      omega (arith, c .before .before .visit .ensures .1 .1),
+      c .before .before .visit .kept .1 .1 .1 .0 ∙ i .3,
+      rw (c .before .before .visit .ensures .0, c .before .before .visit .ensures .1 .0) (note-next _ _ (windowOf (a .k) (a .window .now)) _ _ _ _ (c .before .before .before .before .before .loop .answer) _ (i .4) (c .before .before .before .before .loop-test .taken)),
+    )
+
+same-length : tie.Need-same-length Inv-loop μ-loop
+same-length c = c .before .loop .inv .3
+
+returns : tie.Need-returns Inv-loop μ-loop
+returns c = let a = c .before .before .before .before .before .before .args in
+    (note-end _ _ (windowOf (a .k) (a .window .now)) _ _ _ _ (c .before .loop .answer) _ (c .before .loop .inv .4) (c .loop-test .left), omega (arith, c .before .loop .inv, count-few (a .pool .now) (a .k) (a .j) (c .before .before .before .before .before .before .pre .0)))
+
+pub list-points-spec : {M : Type 1} → statement M
+list-points-spec =
+    tie.close
+    (tie.spec
+    Inv-loop
+    μ-loop
+    word-requires
+    loop-holds
+    visit-requires
+    add-e
+    loop-less
+    loop-again
+    same-length
+    returns)
