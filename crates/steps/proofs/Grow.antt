@@ -226,7 +226,7 @@ module _ (L N k R P : ℕ) (big : 4 ≤ L) (fitR : 4 + R * (2 * k + 1) ≤ L) (f
         let c : readRecs k (m + 1) (drop 4 src) ≡ rs′ = ap₂ (readRecs k) (sym n1) D ∙ recs-back k rs′ zs ks in
         let o = cut-points p e m ws rs′ src zs w free (leaf p e rs) refl refl ks D h f once (cutPoints k e rs′) (fair (omega (arith, n1))) in
         let is = choice-false (leb (length rs′) P) (fits (leaf p e rs′) free) (chosen k R P (cutPoints k e rs′) (leaf p e rs′) free) (lt-leb (length rs′) P (omega (arith, n1))) in
-        rw (e1, e2, le-ltb m P l, c)
+        rw (e1, e2, le-ltb m P l, eq-eqb m P (omega (arith, fit .0)), c)
         (subst₂ (λ v i. OutcomeG L N k R P 0 w (leaf p e rs) free v (breakPoints L N k R P (cutPoints k e rs′) src i p w)) (sym is) n1 o))
 
 -- the turns above the point pages
@@ -237,10 +237,10 @@ module _ (L N k R P : ℕ) where
     unfolding widenIn
     widen-room l = rw (p, q, h, z, lt-ltb m R l)
 
-    widen-full : R ≤ m → widenIn L N k R P n d x r a j w
+    widen-full : m ≡ R → widenIn L N k R P n d x r a j w
         ≡ breakRegions L N k R P n (cutRegions k e (map (λ e. e .box) (readEnts k (m + 1) (drop 4 (overfull L (2 * k + 1) v j u))))) (overfull L (2 * k + 1) v j u) (m + 1) j v
     unfolding widenIn
-    widen-full l = rw (p, q, h, z, le-ltb m R l)
+    widen-full l = rw (p, q, h, z, le-ltb m R (omega arith), eq-eqb m R l)
 
   module _ (p : Key) (l n j : ℕ) (w : List ℕ) (m a : ℕ) (h : word L w j 1 ≡ m) (s : seekIn k p m w (L * j + 4) ≡ a) where
     grow-lost : a ≡ 0 → growIn L N k R P p l (suc n) j w .how ≡ short
@@ -404,7 +404,7 @@ module _ (L N k R P : ℕ) (big : 4 ≤ L) (fitR : 4 + R * (2 * k + 1) ≤ L) (f
           fitH D (o2 .here) heldH freeV (λ c. omega (arith, once′ c, sp .count c, cntH c)) (cutRegions k e (boxes H)) (fair over-R) in
           let is = choice-false (leb (size H) R) (fits (node p e H) (s .free)) (chosen k R P (cutRegions k e (boxes H)) (node p e H) (s .free)) (lt-leb (size H) R over-R) in
           let eq : widenIn L N k R P n d x (root (s .rt)) a p w1 ≡ breakRegions L N k R P n (cutRegions k e (boxes H)) src (length (ents H)) p v =
-          widen-full L N k R P n d x (root (s .rt)) a p w1 ER v m e (of 1 (omega arith)) (of 2 (omega arith)) u-is v-is l
+          widen-full L N k R P n d x (root (s .rt)) a p w1 ER v m e (of 1 (omega arith)) (of 2 (omega arith)) u-is v-is (omega (arith, fit .0, size-ents G))
           ∙ ap₂ (λ bs i. breakRegions L N k R P n (cutRegions k e bs) src i p v) c (sym m-H) in
           subst₂ (λ u z. OutcomeG L N k R P (suc n) w (node p e G) free u z) (sym is) (sym eq) o)
         where

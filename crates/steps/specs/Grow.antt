@@ -1,4 +1,5 @@
--- Growing in place: down the first entry that holds the point, to the point page, and up again as long as pages break.
+-- Growing in place: down the first entry that holds the point, to the point page, and up again as long as pages break. A page that
+-- counts more than it can hold, as no sound pool has, takes nothing.
 use mathlib.Core.Bool.{cond}
 use mathlib.Core.List.{List, [], _∷_, _++_, map}
 use Prim.Native.Nat.{ℕ, zero, suc, _+_, _*_}
@@ -54,7 +55,7 @@ module _ (L N k R P : ℕ) where
       let src = overfull L wd v j u in
       let roomy : Grown = record { how = fine; words = appendIn L wd v j u } in
       let full = breakRegions n (cutRegions k (word L w j 2) (map (λ e. e .box) (readEnts k (m + 1) (drop 4 src)))) src (m + 1) j v in
-      cond (ltb m R) roomy full
+      cond (ltb m R) roomy (cond (eqb m R) full (record { how = short; words = v }))
 
   abbrev pub upIn : ℕ → ℕ → ℕ → Grown → Grown
   upIn n a j g = elim (g .how) [ short ↦ g | fine ↦ g | broke d x r ↦ widenIn n d x r a j (g .words) ]
@@ -67,7 +68,7 @@ module _ (L N k R P : ℕ) where
       let src = overfull L (k + 1) w j u in
       let roomy : Grown = record { how = fine; words = appendIn L (k + 1) w j u } in
       let full = breakPoints (cutPoints k (word L w j 2) (readRecs k (m + 1) (drop 4 src))) src (m + 1) j w in
-      cond (ltb m P) roomy full
+      cond (ltb m P) roomy (cond (eqb m P) full (record { how = short; words = w }))
   growIn p l (suc n) j w =
       let a = seekIn k p (word L w j 1) w (L * j + 4) in
       let lost : Grown = record { how = short; words = w } in

@@ -1,0 +1,110 @@
+use Prim.Native.Nat.{_+_, _*_}
+use lib.ListN.{take}
+use Rattle.steps.specs.Grow.{breakRegions}
+use Rattle.kdb.specs.Pages.{regionsPer, pointsPer}
+use Rattle.kdb.specs.Cut.{choose}
+use Rattle.cut.specs.Keys.{keysIn}
+use Rattle.grow.proofs.Laws.{few-regions}
+use mathlib.Core.Path.{_≡_, refl, sym, ap, _∙_}
+use lib.Seq.{length-take-le}
+use Rattle.words.proofs.Laws.{capacity-few}
+use Rattle.grow.proofs.Laws.{regions-room, regions-full, regions-over, over-words}
+use borrow.Author.Needs.{needs}
+use native.Mathlib.Omega.{arith}
+use Rattle.grow.proofs.settle_regions.Statement.{statement}
+use Rattle.grow.proofs.settle_regions.Tie as tie
+use Rattle.grow.proofs.settle_regions.Reads as reads
+use Rattle.grow.proofs.settle_regions.Lts as lts
+use Rattle.grow.proofs.break_regions.Reads as break-regions-reads
+use Rattle.grow.proofs.copy_overfull.Reads as copy-overfull-reads
+use Rattle.split.proofs.append.Reads as append-reads
+use Rattle.words.proofs.regions_per.Reads as regions-per-reads
+
+regions-per-requires : tie.Need-regions-per-requires
+regions-per-requires c κs = search needs
+
+mul-append : tie.Need-mul-append
+mul-append c = search needs
+
+add-append : tie.Need-add-append
+add-append c = search needs
+
+append-requires : tie.Need-append-requires
+append-requires c κs = search needs
+
+same-length : tie.Need-same-length
+same-length c = search needs
+
+returns : tie.Need-returns
+returns c = let a = (c .before .before .before .before .before .before .before .before .args) in
+    let p = c .before .before .before .before .before .regions-per .ensures in
+    (rw (c .before .before .append .ensures) (regions-room (a .n) (a .k) (a .level) (a .m) (a .e) (a .entry .now) (a .j) (a .pool .now) (omega (arith, p, c .before .before .before .before .if1 .taken)) (omega arith)), record { page = omega arith; domain = omega arith; key = omega arith })
+
+slice-aggregate-copy-overfull : tie.Need-slice-aggregate-copy-overfull
+slice-aggregate-copy-overfull c = search needs
+
+mul-copy-overfull : tie.Need-mul-copy-overfull
+mul-copy-overfull c = search needs
+
+add-copy-overfull : tie.Need-add-copy-overfull
+add-copy-overfull c = search needs
+
+copy-overfull-requires : tie.Need-copy-overfull-requires
+copy-overfull-requires c κs = search needs
+
+mul-over : tie.Need-mul-over
+mul-over c = search needs
+
+add-over : tie.Need-add-over
+add-over c = search needs
+
+array-share-prefix-over : tie.Need-array-share-prefix-over
+array-share-prefix-over c = search needs
+
+slice-aggregate-break-regions : tie.Need-slice-aggregate-break-regions
+slice-aggregate-break-regions c = sym (length-take-le _ _ (omega (arith, c .before .before .before .copy-overfull .kept .0)))
+
+add-break-regions : tie.Need-add-break-regions
+add-break-regions c = search needs
+
+break-regions-requires : tie.Need-break-regions-requires
+break-regions-requires c κs = (c .before .before .before .before .before .before .before .before .before .before .before .pre .0, (c .before .before .before .before .before .before .before .before .before .before .before .pre .1 .0, (record { least = omega arith; most = omega arith; words = omega arith; some = omega arith; few = omega (arith, few-regions (c .before .before .before .before .before .before .before .before .before .before .before .args .m) (c .before .before .before .before .before .before .before .before .before .before .before .args .k) (c .before .before .before .before .before .before .if2 .taken ∙ c .before .before .before .before .before .before .before .before .regions-per .ensures) (omega arith)) }, (omega arith, omega arith))))
+
+same-length-2 : tie.Need-same-length-2
+same-length-2 c = search needs
+
+returns-2 : tie.Need-returns-2
+returns-2 c = let a = (c .before .before .before .before .before .before .before .before .before .before .before .before .before .before .args) in
+    let o = c .before .before .before .before .before .before .copy-overfull .ensures in
+    let w = over-words (2 * a .k + 1) (a .pool .now) (a .j) (a .entry .now) (33 + 2 * a .k) (omega arith) (omega arith) in
+    let s = ap (λ l. breakRegions 32 (a .n) (a .k) (regionsPer 32 (a .k)) (pointsPer 32 (a .k)) (a .level) (choose (a .k) (a .k) (a .e) (keysIn (a .k) (2 * a .k + 1) (a .m + 1) l)) l (a .m + 1) (a .j) (a .pool .now)) (ap (take (33 + 2 * a .k)) o ∙ w) in
+    (c .before .before .break-regions .ensures .0 ∙ s ∙ regions-full (a .n) (a .k) (a .level) (a .m) (a .e) (a .entry .now) (a .j) (a .pool .now) (c .before .before .before .before .before .before .before .before .before .if2 .taken ∙ c .before .before .before .before .before .before .before .before .before .before .before .regions-per .ensures), c .before .before .break-regions .ensures .1)
+
+returns-3 : tie.Need-returns-3
+returns-3 c = let a = (c .before .before .before .before .before .args) in
+    let p = c .before .before .regions-per .ensures in
+    (regions-over (a .n) (a .k) (a .level) (a .m) (a .e) (a .entry .now) (a .j) (a .pool .now) (omega (arith, p, c .before .if1 .left)) (λ z. c .if2 .left (z ∙ sym p)), record { page = omega arith; domain = omega arith; key = omega arith })
+
+pub settle-regions-spec : {M : Type 1} → statement M
+settle-regions-spec =
+    tie.close
+    (tie.spec
+    regions-per-requires
+    mul-append
+    add-append
+    append-requires
+    same-length
+    returns
+    slice-aggregate-copy-overfull
+    mul-copy-overfull
+    add-copy-overfull
+    copy-overfull-requires
+    mul-over
+    add-over
+    array-share-prefix-over
+    slice-aggregate-break-regions
+    add-break-regions
+    break-regions-requires
+    same-length-2
+    returns-2
+    returns-3)

@@ -1,0 +1,48 @@
+-- How a page took an entry, and the two ways in which a page takes one more entry, in the terms of the machine forms.
+use mathlib.Core.Bool.{true, false, cond}
+use mathlib.Core.List.{List, map}
+use Prim.Native.Nat.{ℕ, _+_, _*_, _≤_, _<_, _^_}
+use lib.Dec.{ltb, eqb}
+use lib.ListN.{drop}
+use Rattle.kdb.specs.Calls.{L}
+use Rattle.kdb.specs.Cut.{cutPoints, cutRegions}
+use Rattle.kdb.specs.Pages.{regionsPer, pointsPer, readRecs, readEnts}
+use Rattle.steps.specs.Machine.{appendIn, overfull}
+use Rattle.steps.specs.Grow.{How, short, fine, broke, Grown, breakPoints, breakRegions}
+use Rattle.grow.specs.declared.Grown.{Grown as Answer}
+
+abbrev pub howOf : Answer → How
+howOf g = cond (eqb (g .page) 0) (cond (g .ok) fine short) (broke (g .domain) (g .key) (g .page))
+
+abbrev pub grownAs : Answer → List ℕ → Grown
+grownAs g w = record { how = howOf g; words = w }
+
+-- n pages and k domains
+pub record Placing (n k : ℕ) : Type 0 where
+  pub least : 1 ≤ n
+  pub most : n ≤ 512
+  pub some : 1 ≤ k
+  pub few : k ≤ 4
+
+-- a page and a domain that there are, and a word
+pub record Sane (n k : ℕ) (g : Answer) : Type 0 where
+  pub page : g .page < n
+  pub domain : g .domain < k
+  pub key : g .key < 2 ^ 32
+
+-- page j of domain e takes the entry u behind its m entries
+unfoldable pub settlePoints : ℕ → ℕ → ℕ → ℕ → List ℕ → ℕ → List ℕ → Grown
+settlePoints n k m e u j w =
+    let P = pointsPer L k in
+    let src = overfull L (k + 1) w j u in
+    let roomy : Grown = record { how = fine; words = appendIn L (k + 1) w j u } in
+    let full = breakPoints L n k (regionsPer L k) P (cutPoints k e (readRecs k (m + 1) (drop 4 src))) src (m + 1) j w in
+    cond (ltb m P) roomy (cond (eqb m P) full (record { how = short; words = w }))
+
+unfoldable pub settleRegions : ℕ → ℕ → ℕ → ℕ → ℕ → List ℕ → ℕ → List ℕ → Grown
+settleRegions n k level m e u j w =
+    let R = regionsPer L k in
+    let src = overfull L (2 * k + 1) w j u in
+    let roomy : Grown = record { how = fine; words = appendIn L (2 * k + 1) w j u } in
+    let full = breakRegions L n k R (pointsPer L k) level (cutRegions k e (map (λ e. e .box) (readEnts k (m + 1) (drop 4 src)))) src (m + 1) j w in
+    cond (ltb m R) roomy (cond (eqb m R) full (record { how = short; words = w }))
