@@ -18,7 +18,7 @@ use Rattle.kdb.specs.Cut.{cutOf, Cut, nowhere, cut, choose, cutPoints, cutRegio
 use Rattle.kdb.specs.Pages.{regionsPer, pointsPer, readRecs, readEnts, page}
 use Rattle.kdb.specs.Steps.{afterChosen}
 use Rattle.kdb.proofs.Lists.{bool, is-false, pad-sets, length-pad}
-use Rattle.kdb.proofs.Cut.{within-length}
+use Rattle.kdb.proofs.Box.{within-length}
 use Rattle.kdb.proofs.Pages.{points-fit, regions-fit}
 use Rattle.kdb.proofs.Words.{keysBy}
 use Rattle.cut.specs.Keys.{keyIn, keysIn}
