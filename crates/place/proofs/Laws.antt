@@ -1,0 +1,158 @@
+-- Laws of each return of placing and removing, over the machine forms.
+use mathlib.Core.Bool.{Bool, true, false, cond}
+use mathlib.Core.List.{List, [], _∷_, _++_}
+use mathlib.Core.Path.{_≡_, refl, sym, ap, ap₂, _∙_, subst}
+use Prim.Native.Nat.{ℕ, zero, suc, _+_, _-_, _*_, _/_, _<_, _≤_, _^_}
+use native.Mathlib.Omega.{arith}
+use native.Mathlib.Nat.{mul-le-mul, mul-le-mul-left}
+use lib.Dec.{eqb}
+use lib.ListN.{length, take, drop, getD, set, replicate}
+use lib.Seq.{sets, take-all, set-comm, set-set}
+use borrow.Author.Tests.{eq-eqb, ne-eqb}
+use Rattle.kdb.specs.Lists.{only, upFrom}
+use Rattle.kdb.specs.Box.{Key}
+use Rattle.kdb.specs.Calls.{L}
+use Rattle.kdb.specs.Pages.{regionsPer, pointsPer}
+use Rattle.kdb.specs.Pool.{domains, rootAt, levelsAt, countAt, pagesIn}
+use Rattle.split.specs.Part.{claimed, passed, halfIn}
+use Rattle.grow.specs.Grown.{grownAs}
+use Rattle.grow.specs.declared.Grown.{Grown as Answer}
+use Rattle.steps.specs.Machine.{Passed, word, freshIn, appendIn}
+use Rattle.steps.specs.Claim.{lowest, claimIn}
+use Rattle.steps.specs.Grow.{Grown, growIn}
+use Rattle.steps.specs.Place.{headIn, space, rootIn, toppedIn, firstIn, restored, placeIn}
+use Rattle.steps.specs.Remove.{downIn, closeIn, removeIn}
+use Rattle.place.specs.Steps.{stepsIn}
+
+pub header-is : (w : List ℕ) (r l c : ℕ) → set (set (set w 2 r) 3 l) 4 c ≡ headIn w r l c
+unfolding headIn
+header-is w r l c = refl
+
+-- the entry of the whole space in the table
+abbrev pub table : List ℕ
+table = 0 ∷ 0 ∷ 0 ∷ 0 ∷ 4294967295 ∷ 4294967295 ∷ 4294967295 ∷ 4294967295 ∷ 0 ∷ []
+
+whole-at : (k : ℕ) → 1 ≤ k → k ≤ 4 → take (2 * k + 1) (drop (4 - k) table) ≡ set (space k) (2 * k) (getD table (4 + k) 0)
+whole-at zero h g = absurd (omega arith)
+whole-at (suc zero) h g = refl
+whole-at (suc (suc zero)) h g = refl
+whole-at (suc (suc (suc zero))) h g = refl
+whole-at (suc (suc (suc (suc zero)))) h g = refl
+whole-at (suc (suc (suc (suc (suc k))))) h g = absurd (omega arith)
+
+pub whole-half : (k i x q : ℕ) → 1 ≤ k → k ≤ 4 → i < 2 * k → halfIn k table (4 - k) i x q ≡ set (set (space k) i x) (2 * k) q
+whole-half k i x q h g l =
+    let v = getD table (4 + k) 0 in
+    ap (λ u. set (set u i x) (2 * k) q) (whole-at k h g)
+    ∙ ap (λ u. set u (2 * k) q) (set-comm (space k) (2 * k) i v x (λ z. omega arith)) ∙ set-set (set (space k) i x) (2 * k) v q
+
+-- where no page was claimed, the words are those before
+lowest-none : (g : ℕ → Bool) (n m c : ℕ) → 1 ≤ c → 0 ≡ getD (only g (upFrom m c)) 0 n → n ≡ 0
+lowest-none g n zero c h e = sym e
+lowest-none g n (suc m) c h e = go (g c) e (lowest-none g n m (suc c) (omega arith))
+  where
+    go : (t : Bool) → 0 ≡ getD (cond t (c ∷ only g (upFrom m (suc c))) (only g (upFrom m (suc c)))) 0 n → (0 ≡ getD (only g (upFrom m (suc c))) 0 n → n ≡ 0) → n ≡ 0
+    go true e r = absurd (omega arith)
+    go false e r = r e
+
+claim-same : (n kind e r : ℕ) (w v : List ℕ) → claimed r v ≡ claimIn L n kind e w → r ≡ 0 → v ≡ w
+unfolding claimIn lowest
+claim-same n kind e r w v h z = go (eqb c n) (eq-eqb c n) h
+  where
+    g : ℕ → Bool
+    g i = eqb (word L w i 0) 0
+
+    c : ℕ
+    c = getD (only g (upFrom (n - 1) 1)) 0 n
+
+    go : (t : Bool) → (c ≡ n → t ≡ true) → claimed r v ≡ cond t (claimed 0 w) (claimed c (freshIn L w c kind e)) → v ≡ w
+    go true f h = ap (λ o. o .words) h
+    go false f h =
+        let q : 0 ≡ c = sym z ∙ ap (λ o. o .page) h in
+        let y : false ≡ true = f (sym q ∙ sym (lowest-none g n (n - 1) 1 (omega arith) q)) in
+        absurd (let x : _≡_ {A = ℕ} 0 1 = cc in omega arith)
+
+-- the new root
+module _ (n k d x l r levels count : ℕ) (w v : List ℕ) (top : ℕ) (h : claimed top v ≡ claimIn L n 1 0 w) where
+  pub root-none : top ≡ 0 → passed false v ≡ rootIn L n k d x l r levels count w
+  unfolding rootIn
+  root-none z = rw (claim-same n 1 0 top w v h z, ← h, eq-eqb top 0 z)
+
+  pub root-some : (top ≡ 0 → ⊥)
+      → passed true (headIn (appendIn L (2 * k + 1) (appendIn L (2 * k + 1) v top (set (set (space k) (k + d) x) (2 * k) l)) top (set (set (space k) d x) (2 * k) r)) top (levels + 1) (count + 1))
+      ≡ rootIn L n k d x l r levels count w
+  unfolding rootIn
+  root-some z = rw (← h, ne-eqb top 0 z)
+
+-- the first point
+module _ (n k : ℕ) (p : Key) (l : ℕ) (w v : List ℕ) (r : ℕ) (h : claimed r v ≡ claimIn L n 2 0 w) where
+  pub first-none : r ≡ 0 → passed false v ≡ firstIn L n k p l w
+  unfolding firstIn
+  first-none z = rw (claim-same n 2 0 r w v h z, ← h, eq-eqb r 0 z)
+
+  pub first-some : (r ≡ 0 → ⊥) → passed true (headIn (appendIn L (k + 1) v r (p ++ (l ∷ []))) r 1 1) ≡ firstIn L n k p l w
+  unfolding firstIn
+  first-some z = rw (← h, ne-eqb r 0 z)
+
+-- what the root became
+module _ (n k root levels count : ℕ) (g : Answer) (w : List ℕ) where
+  pub topped-root : (g .page ≡ 0 → ⊥) → rootIn L n k (g .domain) (g .key) root (g .page) levels count w ≡ toppedIn L n k root levels count (grownAs g w)
+  unfolding toppedIn
+  topped-root z = rw (ne-eqb (g .page) 0 z)
+
+  pub topped-fine : g .page ≡ 0 → g .ok ≡ true → passed true (headIn w root levels (count + 1)) ≡ toppedIn L n k root levels count (grownAs g w)
+  unfolding toppedIn
+  topped-fine z t = rw (eq-eqb (g .page) 0 z, t)
+
+  pub topped-short : g .page ≡ 0 → g .ok ≡ false → passed false w ≡ toppedIn L n k root levels count (grownAs g w)
+  unfolding toppedIn
+  topped-short z t = rw (eq-eqb (g .page) 0 z, t)
+
+-- the steps, and the pool restored
+module _ (n : ℕ) (p : Key) (l : ℕ) (w : List ℕ) where
+  pub steps-first : levelsAt w ≡ 0 → firstIn L n (domains w) p l w ≡ stepsIn n p l w
+  unfolding stepsIn
+  steps-first z = rw (eq-eqb (levelsAt w) 0 z)
+
+  pub steps-grown : (levelsAt w ≡ 0 → ⊥)
+      → toppedIn L n (domains w) (rootAt w) (levelsAt w) (countAt w) (growIn L n (domains w) (regionsPer L (domains w)) (pointsPer L (domains w)) p l (levelsAt w - 1) (rootAt w) w) ≡ stepsIn n p l w
+  unfolding stepsIn
+  steps-grown z = rw (ne-eqb (levelsAt w) 0 z)
+
+  module _ (h : length w ≡ 32 * n) where
+    pages : pagesIn L w ≡ n
+    pages = omega arith
+
+    place-steps : restored w (stepsIn n p l w) ≡ placeIn L p l w
+    unfolding stepsIn placeIn
+    place-steps = rw pages
+
+    pub place-done : (ok : Bool) (v : List ℕ) → passed ok v ≡ stepsIn n p l w → ok ≡ true → passed true v ≡ placeIn L p l w
+    place-done ok v e t = (rw t at (ap (restored w) e)) ∙ place-steps
+
+    pub place-back : (ok : Bool) (v : List ℕ) → passed ok v ≡ stepsIn n p l w → ok ≡ false → passed false w ≡ placeIn L p l w
+    place-back ok v e t = (rw t at (ap (restored w) e)) ∙ place-steps
+
+-- words that move down
+module _ (wd n i : ℕ) (w : List ℕ) (a : ℕ) (z : List ℕ) where
+  pub down-end : downIn wd (n - i) w a ≡ z → n ≤ i → w ≡ z
+  unfolding downIn
+  down-end e h = let q : n - i ≡ 0 = omega arith in rw q at e
+
+  pub down-next : downIn wd (n - i) w a ≡ z → i < n → downIn wd (n - (i + 1)) (set w a (getD w (a + wd) 0)) (a + 1) ≡ z
+  unfolding downIn
+  down-next e h = let q : n - i ≡ suc (n - (i + 1)) = omega arith in rw q at e
+
+pub far : (m wd : ℕ) → m < 4294967296 → wd ≤ 5 → m * wd ≤ 4294967296 * 5
+far m wd h g = mul-le-mul (let q : m ≤ 4294967296 = omega arith in q) g
+
+pub remove-is : (j slot : ℕ) (w : List ℕ)
+    → (let wd = domains w + 1 in let a = 32 * j + 4 + slot * wd in let n = 32 * j + 4 + word L w j 1 * wd - (a + wd) in
+      set (set (sets (downIn wd n w a) (a + n) (replicate (a + n + wd - (a + n)) 0)) (32 * j + 1) (word L w j 1 - 1)) 4 (countAt w - 1)) ≡ removeIn L j slot w
+unfolding removeIn closeIn
+remove-is j slot w =
+    let wd = domains w + 1 in
+    let a = 32 * j + 4 + slot * wd in
+    let n = 32 * j + 4 + word L w j 1 * wd - (a + wd) in
+    let q : a + n + wd - (a + n) ≡ wd = omega arith in
+    ap (λ m. set (set (sets (downIn wd n w a) (a + n) (replicate m 0)) (32 * j + 1) (word L w j 1 - 1)) 4 (countAt w - 1)) q

@@ -1,0 +1,152 @@
+// Placing and removing in a pool: the root grows, a new root or the first page is claimed, and the header is written last.
+use grow::Grown;
+use grow::grow;
+use grow::write_record;
+use split::append;
+use split::append_half;
+use split::claim;
+use words::clear;
+use words::copy;
+use words::get;
+use words::put;
+use words::word;
+ghost use mathlib.Core.List.{List, [], _∷_, _++_};
+ghost use mathlib.Core.Path.{_≡_};
+ghost use Prim.Native.Nat.{ℕ, _+_, _*_, _-_, _≤_, _<_, _^_};
+ghost use lib.ListN.{length, getD, set};
+ghost use Rattle.kdb.specs.Calls.{L};
+ghost use Rattle.kdb.specs.Pool.{domains, rootAt, levelsAt, countAt};
+ghost use Rattle.split.specs.Part.{passed};
+ghost use Rattle.grow.specs.Grown.{grownAs, Sane, Placing};
+ghost use Rattle.steps.specs.Place.{headIn, rootIn, toppedIn, firstIn, placeIn};
+ghost use Rattle.steps.specs.Remove.{downIn, removeIn};
+ghost use Rattle.place.specs.Steps.{Topping, Room, stepsIn};
+
+// The entry of the whole space of k domains stands at word 4 - k.
+const WHOLE: [u32; 9] = [0, 0, 0, 0, 4294967295, 4294967295, 4294967295, 4294967295, 0];
+
+// The header's root, levels and count.
+fn write_header(pool: &mut [u32], root: usize, levels: usize, count: usize)
+    requires { ⌜ (root < 2 ^ 32) × ((levels < 2 ^ 32) × (count < 2 ^ 32)) ⌝ }
+    ensures { λ _. ⌜ now (pool .exit) ≡ headIn (now (pool .entry)) root levels count ⌝ }
+{
+    put(pool, 2, root);
+    put(pool, 3, levels);
+    put(pool, 4, count);
+}
+
+// The root became pages l and r, cut along x in domain d: a new root lists both.
+fn new_root(pool: &mut [u32], n: usize, k: usize, d: usize, x: usize, l: usize, r: usize, levels: usize, count: usize) -> bool
+    requires { ⌜ (Placing n k) × ((d < k) × ((x < 2 ^ 32) × ((r < 2 ^ 32) × Topping l levels count))) ⌝ }
+    ensures { λ ok. ⌜ passed ok (now (pool .exit)) ≡ rootIn L n k d x l r levels count (now (pool .entry)) ⌝ }
+{
+    let top = claim(pool, n, 1, 0);
+    if top == 0 {
+        return false;
+    }
+    append_half(pool, k, top, &WHOLE, 4 - k, k + d, x, l);
+    append_half(pool, k, top, &WHOLE, 4 - k, d, x, r);
+    write_header(pool, top, levels + 1, count + 1);
+    true
+}
+
+// What the root became.
+fn finish(pool: &mut [u32], n: usize, k: usize, root: usize, levels: usize, count: usize, g: Grown) -> bool
+    requires { ⌜ (Placing n k) × ((Topping root levels count) × Sane n k g) ⌝ }
+    ensures { λ ok. ⌜ passed ok (now (pool .exit)) ≡ toppedIn L n k root levels count (grownAs g (now (pool .entry))) ⌝ }
+{
+    let page = g.page;
+    let ok = g.ok;
+    if page != 0 {
+        return new_root(pool, n, k, g.domain, g.key, root, page, levels, count);
+    }
+    if ok {
+        write_header(pool, root, levels, count + 1);
+        return true;
+    }
+    false
+}
+
+// The first point claims a point page.
+fn first_point(pool: &mut [u32], n: usize, k: usize, point: &[u32], location: usize) -> bool
+    requires { ⌜ (Placing n k) × ((length (now point) ≡ k) × (location < 2 ^ 32)) ⌝ }
+    ensures { λ ok. ⌜ passed ok (now (pool .exit)) ≡ firstIn L n k (now (point .entry)) location (now (pool .entry)) ⌝ }
+{
+    let r = claim(pool, n, 2, 0);
+    if r == 0 {
+        return false;
+    }
+    let mut entry = [0u32; 5];
+    write_record(&mut entry, k, point, location);
+    append(pool, k + 1, r, &entry[..k + 1], 0);
+    write_header(pool, r, 1, 1);
+    true
+}
+
+// The steps of placing; where a page is wanting they are left half-way.
+fn place_steps(pool: &mut [u32], n: usize, point: &[u32], location: usize) -> bool
+    requires { ⌜ Room n (now pool) (now point) location ⌝ }
+    ensures { λ ok. ⌜ passed ok (now (pool .exit)) ≡ stepsIn n (now (point .entry)) location (now (pool .entry)) ⌝ }
+{
+    let k = get(pool, 0);
+    let root = get(pool, 2);
+    let levels = get(pool, 3);
+    let count = get(pool, 4);
+    if levels == 0 {
+        return first_point(pool, n, k, point, location);
+    }
+    let g = grow(pool, n, k, levels - 1, root, point, location);
+    finish(pool, n, k, root, levels, count, g)
+}
+
+// Places a point: work becomes the copy of the pool before the steps alter the pool, and where a page is wanting the pool becomes the
+// copy of work again.
+pub fn place_in(pool: &mut [u32], work: &mut [u32], n: usize, point: &[u32], location: usize) -> bool
+    requires { ⌜ (Room n (now pool) (now point) location) × (length (now work) ≡ length (now pool)) ⌝ }
+    ensures { λ ok. ⌜ (passed ok (now (pool .exit)) ≡ placeIn L (now (point .entry)) location (now (pool .entry))) × (now (work .exit) ≡ now (pool .entry)) ⌝ }
+{
+    copy(work, pool);
+    let ok = place_steps(pool, n, point, location);
+    if ok {
+        return true;
+    }
+    copy(pool, work);
+    false
+}
+
+// a less b, and 0 where b is more.
+fn less(a: usize, b: usize) -> usize
+    ensures { λ r. ⌜ r ≡ a - b ⌝ }
+{
+    if a < b { 0 } else { a - b }
+}
+
+// The n words behind the wd words at word a move down over them.
+fn move_down(pool: &mut [u32], wd: usize, n: usize, a: usize)
+    requires { ⌜ (wd ≤ 5) × ((n < 2 ^ 40) × (a < 2 ^ 40)) ⌝ }
+    ensures { λ _. ⌜ now (pool .exit) ≡ downIn wd n (now (pool .entry)) a ⌝ }
+{
+    let mut at = a;
+    let mut i: usize = 0;
+    while i < n {
+        put(pool, at, get(pool, at + wd));
+        at += 1;
+        i += 1;
+    }
+}
+
+// The record in a slot of page j goes: later records move down, the last one's words become zero, and page and header count one less.
+pub fn remove_in(pool: &mut [u32], j: usize, slot: usize)
+    requires { ⌜ (domains (now pool) ≤ 4) × ((j < 2 ^ 32) × (slot < 2 ^ 32)) ⌝ }
+    ensures { λ _. ⌜ now (pool .exit) ≡ removeIn L j slot (now (pool .entry)) ⌝ }
+{
+    let wd = get(pool, 0) + 1;
+    let count = get(pool, 4);
+    let m = word(pool, j, 1);
+    let a = 32 * j + 4 + slot * wd;
+    let n = less(32 * j + 4 + m * wd, a + wd);
+    move_down(pool, wd, n, a);
+    clear(pool, a + n, a + n + wd);
+    put(pool, 32 * j + 1, less(m, 1));
+    put(pool, 4, less(count, 1));
+}
