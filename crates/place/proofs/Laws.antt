@@ -148,7 +148,7 @@ far m wd h g = mul-le-mul (let q : m ≤ 4294967296 = omega arith in q) g
 
 pub remove-is : (j slot : ℕ) (w : List ℕ)
     → (let wd = domains w + 1 in let a = 32 * j + 4 + slot * wd in let n = 32 * j + 4 + word L w j 1 * wd - (a + wd) in
-      set (set (sets (downIn wd n w a) (a + n) (replicate (a + n + wd - (a + n)) 0)) (32 * j + 1) (word L w j 1 - 1)) 4 (countAt w - 1)) ≡ removeIn L j slot w
+    set (set (sets (downIn wd n w a) (a + n) (replicate (a + n + wd - (a + n)) 0)) (32 * j + 1) (word L w j 1 - 1)) 4 (countAt w - 1)) ≡ removeIn L j slot w
 unfolding removeIn closeIn
 remove-is j slot w =
     let wd = domains w + 1 in

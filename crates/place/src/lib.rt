@@ -23,7 +23,17 @@ ghost use Rattle.steps.specs.Remove.{downIn, removeIn};
 ghost use Rattle.place.specs.Steps.{Topping, Room, stepsIn};
 
 // The entry of the whole space of k domains stands at word 4 - k.
-const WHOLE: [u32; 9] = [0, 0, 0, 0, 4294967295, 4294967295, 4294967295, 4294967295, 0];
+const WHOLE: [u32; 9] = [
+    0,
+    0,
+    0,
+    0,
+    4294967295,
+    4294967295,
+    4294967295,
+    4294967295,
+    0,
+];
 
 // The header's root, levels and count.
 fn write_header(pool: &mut [u32], root: usize, levels: usize, count: usize)
@@ -36,7 +46,17 @@ fn write_header(pool: &mut [u32], root: usize, levels: usize, count: usize)
 }
 
 // The root became pages l and r, cut along x in domain d: a new root lists both.
-fn new_root(pool: &mut [u32], n: usize, k: usize, d: usize, x: usize, l: usize, r: usize, levels: usize, count: usize) -> bool
+fn new_root(
+    pool: &mut [u32],
+    n: usize,
+    k: usize,
+    d: usize,
+    x: usize,
+    l: usize,
+    r: usize,
+    levels: usize,
+    count: usize,
+) -> bool
     requires { ⌜ (Placing n k) × ((d < k) × ((x < 2 ^ 32) × ((r < 2 ^ 32) × Topping l levels count))) ⌝ }
     ensures { λ ok. ⌜ passed ok (now (pool .exit)) ≡ rootIn L n k d x l r levels count (now (pool .entry)) ⌝ }
 {
@@ -51,7 +71,15 @@ fn new_root(pool: &mut [u32], n: usize, k: usize, d: usize, x: usize, l: usize, 
 }
 
 // What the root became.
-fn finish(pool: &mut [u32], n: usize, k: usize, root: usize, levels: usize, count: usize, g: Grown) -> bool
+fn finish(
+    pool: &mut [u32],
+    n: usize,
+    k: usize,
+    root: usize,
+    levels: usize,
+    count: usize,
+    g: Grown,
+) -> bool
     requires { ⌜ (Placing n k) × ((Topping root levels count) × Sane n k g) ⌝ }
     ensures { λ ok. ⌜ passed ok (now (pool .exit)) ≡ toppedIn L n k root levels count (grownAs g (now (pool .entry))) ⌝ }
 {
@@ -101,7 +129,13 @@ fn place_steps(pool: &mut [u32], n: usize, point: &[u32], location: usize) -> bo
 
 // Places a point: work becomes the copy of the pool before the steps alter the pool, and where a page is wanting the pool becomes the
 // copy of work again.
-pub fn place_in(pool: &mut [u32], work: &mut [u32], n: usize, point: &[u32], location: usize) -> bool
+pub fn place_in(
+    pool: &mut [u32],
+    work: &mut [u32],
+    n: usize,
+    point: &[u32],
+    location: usize,
+) -> bool
     requires { ⌜ (Room n (now pool) (now point) location) × (length (now work) ≡ length (now pool)) ⌝ }
     ensures { λ ok. ⌜ (passed ok (now (pool .exit)) ≡ placeIn L (now (point .entry)) location (now (pool .entry))) × (now (work .exit) ≡ now (pool .entry)) ⌝ }
 {

@@ -42,7 +42,7 @@ loop-less c = search needs
 
 loop-again : tie.Need-loop-again Inv-loop μ-loop
 loop-again c = let i = c .before .before .before .before .before .before .before .loop .inv in
-        (omega arith, omega arith, c .before .before .put .kept .0 ∙ i .2, rw (c .before .before .put .ensures, c .before .before .before .get .ensures .0) (down-next _ _ _ _ _ _ (i .3) (c .before .before .before .before .before .before .loop-test .taken)))
+    (omega arith, omega arith, c .before .before .put .kept .0 ∙ i .2, rw (c .before .before .put .ensures, c .before .before .before .get .ensures .0) (down-next _ _ _ _ _ _ (i .3) (c .before .before .before .before .before .before .loop-test .taken)))
 
 same-length : tie.Need-same-length Inv-loop μ-loop
 same-length c = c .before .loop .inv .2

@@ -59,11 +59,11 @@ same-length-2 c = search needs
 
 returns-2 : tie.Need-returns-2
 returns-2 c = let a = (c .before .before .before .before .before .before .before .before .before .before .before .before .before .before .before .before .before .before .before .before .args) in
-        let k = a .k in
-        let e = whole-half k (k + a .d) (a .x) (a .l) (omega (arith, (c .before .before .before .before .before .before .before .before .before .before .before .before .before .before .before .before .before .before .before .before .pre))) (omega (arith, (c .before .before .before .before .before .before .before .before .before .before .before .before .before .before .before .before .before .before .before .before .pre))) (omega (arith, (c .before .before .before .before .before .before .before .before .before .before .before .before .before .before .before .before .before .before .before .before .pre))) in
-        let f = whole-half k (a .d) (a .x) (a .r) (omega (arith, (c .before .before .before .before .before .before .before .before .before .before .before .before .before .before .before .before .before .before .before .before .pre))) (omega (arith, (c .before .before .before .before .before .before .before .before .before .before .before .before .before .before .before .before .before .before .before .before .pre))) (omega (arith, (c .before .before .before .before .before .before .before .before .before .before .before .before .before .before .before .before .before .before .before .before .pre))) in
-        (rw (c .before .before .write-header .ensures, c .before .before .before .before .before .before .append-half2 .ensures, c .before .before .before .before .before .before .before .before .before .before .before .append-half .ensures) (ap₂ (λ s t. passed true (headIn (appendIn 32 (2 * k + 1) (appendIn 32 (2 * k + 1) (c .before .before .before .before .before .before .before .before .before .before .before .before .before .before .before .before .before .claim .last .0) (c .before .before .before .before .before .before .before .before .before .before .before .before .before .before .before .before .before .claim .result) s) (c .before .before .before .before .before .before .before .before .before .before .before .before .before .before .before .before .before .claim .result) t) (c .before .before .before .before .before .before .before .before .before .before .before .before .before .before .before .before .before .claim .result) (a .levels + 1) (a .count + 1))) e f))
-        ∙ root-some (a .n) k (a .d) (a .x) (a .l) (a .r) (a .levels) (a .count) (a .pool .now) (c .before .before .before .before .before .before .before .before .before .before .before .before .before .before .before .before .before .claim .last .0) (c .before .before .before .before .before .before .before .before .before .before .before .before .before .before .before .before .before .claim .result) (c .before .before .before .before .before .before .before .before .before .before .before .before .before .before .before .before .before .claim .ensures .0) (c .before .before .before .before .before .before .before .before .before .before .before .before .before .before .if1 .left)
+    let k = a .k in
+    let e = whole-half k (k + a .d) (a .x) (a .l) (omega (arith, (c .before .before .before .before .before .before .before .before .before .before .before .before .before .before .before .before .before .before .before .before .pre))) (omega (arith, (c .before .before .before .before .before .before .before .before .before .before .before .before .before .before .before .before .before .before .before .before .pre))) (omega (arith, (c .before .before .before .before .before .before .before .before .before .before .before .before .before .before .before .before .before .before .before .before .pre))) in
+    let f = whole-half k (a .d) (a .x) (a .r) (omega (arith, (c .before .before .before .before .before .before .before .before .before .before .before .before .before .before .before .before .before .before .before .before .pre))) (omega (arith, (c .before .before .before .before .before .before .before .before .before .before .before .before .before .before .before .before .before .before .before .before .pre))) (omega (arith, (c .before .before .before .before .before .before .before .before .before .before .before .before .before .before .before .before .before .before .before .before .pre))) in
+    (rw (c .before .before .write-header .ensures, c .before .before .before .before .before .before .append-half2 .ensures, c .before .before .before .before .before .before .before .before .before .before .before .append-half .ensures) (ap₂ (λ s t. passed true (headIn (appendIn 32 (2 * k + 1) (appendIn 32 (2 * k + 1) (c .before .before .before .before .before .before .before .before .before .before .before .before .before .before .before .before .before .claim .last .0) (c .before .before .before .before .before .before .before .before .before .before .before .before .before .before .before .before .before .claim .result) s) (c .before .before .before .before .before .before .before .before .before .before .before .before .before .before .before .before .before .claim .result) t) (c .before .before .before .before .before .before .before .before .before .before .before .before .before .before .before .before .before .claim .result) (a .levels + 1) (a .count + 1))) e f))
+    ∙ root-some (a .n) k (a .d) (a .x) (a .l) (a .r) (a .levels) (a .count) (a .pool .now) (c .before .before .before .before .before .before .before .before .before .before .before .before .before .before .before .before .before .claim .last .0) (c .before .before .before .before .before .before .before .before .before .before .before .before .before .before .before .before .before .claim .result) (c .before .before .before .before .before .before .before .before .before .before .before .before .before .before .before .before .before .claim .ensures .0) (c .before .before .before .before .before .before .before .before .before .before .before .before .before .before .if1 .left)
 
 pub new-root-spec : {M : Type 1} → statement M
 new-root-spec =

@@ -1,3 +1,6 @@
+use Prim.Native.Nat.{_+_}
+use mathlib.Core.Path.{_≡_, refl, sym, ap, _∙_}
+use Rattle.place.proofs.Laws.{far, remove-is}
 use borrow.Author.Needs.{needs}
 use native.Mathlib.Omega.{arith}
 use Rattle.place.proofs.remove_in.Statement.{statement}
@@ -30,10 +33,10 @@ add-a : tie.Need-add-a
 add-a c = search needs
 
 mul-a-2 : tie.Need-mul-a-2
-mul-a-2 c = search needs
+mul-a-2 c = omega (arith, far (c .before .before .before .before .before .before .before .args .slot) (c .before .before .before .before .get .result + 1) (omega arith) (omega arith))
 
 add-a-2 : tie.Need-add-a-2
-add-a-2 c = search needs
+add-a-2 c = omega (arith, far (c .before .before .before .before .before .before .before .args .slot) (c .before .before .before .before .get .result + 1) (omega arith) (omega arith))
 
 mul-less : tie.Need-mul-less
 mul-less c = search needs
@@ -42,28 +45,36 @@ add-less : tie.Need-add-less
 add-less c = search needs
 
 mul-less-2 : tie.Need-mul-less-2
-mul-less-2 c = search needs
+mul-less-2 c = omega (arith, far (c .before .before .before .before .before .before .before .args .slot) (c .before .before .before .before .get .result + 1) (omega arith) (omega arith), far (c .word .result) (c .before .before .before .before .get .result + 1) (omega arith) (omega arith))
 
 add-less-2 : tie.Need-add-less-2
-add-less-2 c = search needs
+add-less-2 c = omega (arith, far (c .before .before .before .before .before .before .before .args .slot) (c .before .before .before .before .get .result + 1) (omega arith) (omega arith), far (c .word .result) (c .before .before .before .before .get .result + 1) (omega arith) (omega arith))
 
 add-less-3 : tie.Need-add-less-3
-add-less-3 c = search needs
+add-less-3 c = omega (arith, far (c .before .before .before .before .before .before .before .args .slot) (c .before .before .before .before .get .result + 1) (omega arith) (omega arith), far (c .word .result) (c .before .before .before .before .get .result + 1) (omega arith) (omega arith))
 
 less-requires : tie.Need-less-requires
 less-requires c κs = search needs
 
 move-down-requires : tie.Need-move-down-requires
-move-down-requires c κs = search needs
+move-down-requires c κs = let s = far (c .before .before .before .before .before .before .before .before .before .args .slot) (c .before .before .before .before .before .before .get .result + 1) (omega arith) (omega arith) in
+    let t = far (c .before .before .word .result) (c .before .before .before .before .before .before .get .result + 1) (omega arith) (omega arith) in
+    (omega arith, (omega arith, omega arith))
 
 add-clear : tie.Need-add-clear
-add-clear c = search needs
+add-clear c = let s = far (c .before .before .before .before .before .before .before .before .before .before .before .before .before .args .slot) (c .before .before .before .before .before .before .before .before .before .before .get .result + 1) (omega (arith, (c .before .before .before .before .before .before .before .before .before .before .before .before .before .pre))) (omega (arith, (c .before .before .before .before .before .before .before .before .before .before .before .before .before .pre), c .before .before .before .before .before .before .before .before .before .before .get .ensures .0)) in
+    let t = far (c .before .before .before .before .before .before .word .result) (c .before .before .before .before .before .before .before .before .before .before .get .result + 1) (omega (arith, c .before .before .before .before .before .before .word .ensures .1)) (omega (arith, (c .before .before .before .before .before .before .before .before .before .before .before .before .before .pre), c .before .before .before .before .before .before .before .before .before .before .get .ensures .0)) in
+    omega (arith, (c .before .before .before .before .before .before .before .before .before .before .before .before .before .pre), c .before .before .before .before .before .less .ensures)
 
 add-clear-2 : tie.Need-add-clear-2
-add-clear-2 c = search needs
+add-clear-2 c = let s = far (c .before .before .before .before .before .before .before .before .before .before .before .before .before .args .slot) (c .before .before .before .before .before .before .before .before .before .before .get .result + 1) (omega (arith, (c .before .before .before .before .before .before .before .before .before .before .before .before .before .pre))) (omega (arith, (c .before .before .before .before .before .before .before .before .before .before .before .before .before .pre), c .before .before .before .before .before .before .before .before .before .before .get .ensures .0)) in
+    let t = far (c .before .before .before .before .before .before .word .result) (c .before .before .before .before .before .before .before .before .before .before .get .result + 1) (omega (arith, c .before .before .before .before .before .before .word .ensures .1)) (omega (arith, (c .before .before .before .before .before .before .before .before .before .before .before .before .before .pre), c .before .before .before .before .before .before .before .before .before .before .get .ensures .0)) in
+    omega (arith, (c .before .before .before .before .before .before .before .before .before .before .before .before .before .pre), c .before .before .before .before .before .less .ensures)
 
 add-clear-3 : tie.Need-add-clear-3
-add-clear-3 c = search needs
+add-clear-3 c = let s = far (c .before .before .before .before .before .before .before .before .before .before .before .before .before .args .slot) (c .before .before .before .before .before .before .before .before .before .before .get .result + 1) (omega (arith, (c .before .before .before .before .before .before .before .before .before .before .before .before .before .pre))) (omega (arith, (c .before .before .before .before .before .before .before .before .before .before .before .before .before .pre), c .before .before .before .before .before .before .before .before .before .before .get .ensures .0)) in
+    let t = far (c .before .before .before .before .before .before .word .result) (c .before .before .before .before .before .before .before .before .before .before .get .result + 1) (omega (arith, c .before .before .before .before .before .before .word .ensures .1)) (omega (arith, (c .before .before .before .before .before .before .before .before .before .before .before .before .before .pre), c .before .before .before .before .before .before .before .before .before .before .get .ensures .0)) in
+    omega (arith, (c .before .before .before .before .before .before .before .before .before .before .before .before .before .pre), c .before .before .before .before .before .less .ensures)
 
 clear-requires : tie.Need-clear-requires
 clear-requires c κs = search needs
@@ -78,19 +89,20 @@ less-requires-2 : tie.Need-less-requires-2
 less-requires-2 c κs = search needs
 
 put-requires : tie.Need-put-requires
-put-requires c κs = search needs
+put-requires c κs = omega (arith, c .less2 .ensures, c .before .before .before .before .before .before .before .before .before .before .before .word .ensures .1)
 
 less-requires-3 : tie.Need-less-requires-3
 less-requires-3 c κs = search needs
 
 put-requires-2 : tie.Need-put-requires-2
-put-requires-2 c κs = search needs
+put-requires-2 c κs = omega (arith, c .less3 .ensures, c .before .before .before .before .before .before .before .before .before .before .before .before .before .before .before .before .before .before .get2 .ensures .1)
 
 same-length : tie.Need-same-length
-same-length c = search needs
+same-length c = c .before .before .put2 .kept .0 ∙ c .before .before .before .before .before .before .before .put .kept .0 ∙ c .before .before .before .before .before .before .before .before .before .before .before .before .clear .kept .0 ∙ c .before .before .before .before .before .before .before .before .before .before .before .before .before .before .before .before .move-down .kept .0
 
 returns : tie.Need-returns
-returns c = search needs
+returns c = let a = (c .before .before .before .before .before .before .before .before .before .before .before .before .before .before .before .before .before .before .before .before .before .before .before .before .before .before .args) in
+    c .before .before .put2 .ensures ∙ (rw (c .before .before .before .before .before .before .before .put .ensures, c .before .before .before .before .before .before .before .before .before .before .before .before .clear .ensures, c .before .before .before .before .before .before .before .before .before .before .before .before .before .before .before .before .move-down .ensures, c .before .before .before .before .before .before .before .before .before .before .before .before .before .before .before .before .before .before .less .ensures, c .before .before .before .before .before .before .before .before .less2 .ensures, c .before .before .before .less3 .ensures, c .before .before .before .before .before .before .before .before .before .before .before .before .before .before .before .before .before .before .before .before .before .before .before .get .ensures .0, c .before .before .before .before .before .before .before .before .before .before .before .before .before .before .before .before .before .before .before .before .before .get2 .ensures .0, c .before .before .before .before .before .before .before .before .before .before .before .before .before .before .before .before .before .before .before .word .ensures .0) (remove-is (a .j) (a .slot) (a .pool .now)))
 
 pub remove-in-spec : {M : Type 1} → statement M
 remove-in-spec =
