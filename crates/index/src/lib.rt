@@ -1,5 +1,8 @@
 // The public calls over a lent pool. They have no requires: every input has an answer, and the promise says which.
+use audit::audit;
 use boxes::ordered_window;
+use place::place_in;
+use place::remove_in;
 use walk::Sought;
 use walk::list_walk;
 use walk::search;
@@ -13,10 +16,10 @@ ghost use mathlib.Core.Path.{_≡_};
 ghost use mathlib.Core.Bool.{cond};
 ghost use Prim.Native.Nat.{ℕ, _*_};
 ghost use lib.ListN.{length};
-ghost use Rattle.kdb.specs.Walk.{listWalk};
-ghost use Rattle.kdb.specs.Calls.{L, format, check, find, list, windowOf, listing, Promise};
+ghost use Rattle.kdb.specs.Walk.{findWalk, listWalk};
+ghost use Rattle.kdb.specs.Calls.{L, format, check, place, remove, find, list, windowOf, listing, present, Promise};
 ghost use Rattle.walk.specs.Pages.{Fit};
-ghost use Rattle.index.specs.Answers.{formattedAs, checkedAs, foundAs, listedAs};
+ghost use Rattle.index.specs.Answers.{formattedAs, checkedAs, placedAs, removedAs, foundAs, listedAs};
 
 pub enum Formatted {
     Done,
@@ -28,6 +31,28 @@ pub enum Checked {
     Sound,
     NotPages,
     NotSound,
+}
+
+pub enum Placed {
+    Done,
+    NotPages,
+    BadHeader,
+    NotWords,
+    Infinite,
+    NotSound,
+    Present,
+    NoPage,
+}
+
+// At: location.
+pub enum Removed {
+    At(usize),
+    NotPages,
+    BadHeader,
+    NotWords,
+    Infinite,
+    NotSound,
+    Absent,
 }
 
 // At: location and pages read.
@@ -82,6 +107,81 @@ pub fn check(pool: &[u32]) -> Checked
         return Checked::NotPages;
     }
     Checked::NotSound
+}
+
+// Whether the search for the point ends at its record.
+fn is_there(pool: &[u32], n: usize, k: usize, point: &[u32]) -> bool
+    requires { ⌜ Fit (now pool) n k × (length (now point) ≡ k) ⌝ }
+    ensures { λ r. ⌜ r ≡ present (findWalk L (now (pool .entry)) (now (point .entry)) .end) ⌝ }
+{
+    match search(pool, n, k, point) {
+        Sought::Here(_, _, _, _) => true,
+        Sought::Absent(_, _) => false,
+        Sought::Bad(_) => false,
+        Sought::NoRoot => false,
+    }
+}
+
+// Places a record. After Done and after NoPage work holds the pool as it stood before; the pool changes only where it is done.
+pub fn place(pool: &mut [u32], work: &mut [u32], point: &[u32], location: u32) -> Placed
+    ensures { λ r. ⌜ Promise (now (pool .entry)) (place (now (work .entry)) (now (point .entry)) location) (placedAs r (now (pool .exit)) (now (work .exit))) ⌝ }
+{
+    let n = page_count(pool);
+    if n == 0 {
+        return Placed::NotPages;
+    }
+    if !good_header(pool, n) {
+        return Placed::BadHeader;
+    }
+    let k = get(pool, 0);
+    if (point.len() != k) | (work.len() != pool.len()) {
+        return Placed::NotWords;
+    }
+    if !all_finite(point) {
+        return Placed::Infinite;
+    }
+    if !audit(pool, n) {
+        return Placed::NotSound;
+    }
+    if is_there(pool, n, k, point) {
+        return Placed::Present;
+    }
+    if place_in(pool, work, n, point, location as usize) {
+        return Placed::Done;
+    }
+    Placed::NoPage
+}
+
+// Removes the record with the point's keys, and answers its location.
+pub fn remove(pool: &mut [u32], point: &[u32]) -> Removed
+    ensures { λ r. ⌜ Promise (now (pool .entry)) (remove (now (point .entry))) (removedAs r (now (pool .exit))) ⌝ }
+{
+    let n = page_count(pool);
+    if n == 0 {
+        return Removed::NotPages;
+    }
+    if !good_header(pool, n) {
+        return Removed::BadHeader;
+    }
+    let k = get(pool, 0);
+    if point.len() != k {
+        return Removed::NotWords;
+    }
+    if !all_finite(point) {
+        return Removed::Infinite;
+    }
+    if !audit(pool, n) {
+        return Removed::NotSound;
+    }
+    match search(pool, n, k, point) {
+        Sought::Here(page, slot, location, _) => {
+            remove_in(pool, page, slot);
+            Removed::At(location)
+        }
+        Sought::Absent(_, _) => Removed::Absent,
+        Sought::Bad(_) => Removed::NotSound,
+        Sought::NoRoot => Removed::Absent,
+    }
 }
 
 // The location of the record with the point's keys, and the pages read.
