@@ -17,8 +17,7 @@ use Rattle.kdb.specs.Tiling.{tiles}
 use Rattle.kdb.specs.Tree.{Rec}
 use Rattle.kdb.specs.Pages.{Ent, Page, blank, points, regions, regionsPer, pointsPer, domain, recsIn, entsIn, boxesIn, isPoints, isRegions, wordsR, wordsE, layout, printPage, readRecs, readEnts, page}
 use Rattle.kdb.specs.Shape.{differ, PointPage, RegionPage}
-use Rattle.kdb.specs.Pool.{domains, pagesIn, view}
-use Rattle.kdb.specs.Walk.{isPage}
+use Rattle.kdb.specs.Pool.{domains, pagesIn, view, isPage}
 use Rattle.kdb.specs.Calls.{L}
 use Rattle.kdb.proofs.Lists.{and-l, and-r, and-i, bool, bool-eq, is-true, of-true, and-assoc, and-true}
 use Rattle.kdb.proofs.Tiling.{tiles-iff}

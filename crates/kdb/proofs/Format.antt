@@ -39,7 +39,7 @@ none-formed w k h d =
     let g = length-iff L w .0 h in
     record {
       domains = (leb→le 1 k (and-l (leb 1 k) _ d), leb→le k 4 (and-r (leb 1 k) _ d));
-      pages = (g .least, g .most);
+      size = (g .least, g .most);
       numbered = record { inside = λ c i. absurd (omega arith); once = λ c. omega arith };
       shape = tt;
     }

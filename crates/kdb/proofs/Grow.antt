@@ -624,7 +624,7 @@ module _ (L k N : ℕ) where
   after-formed s q p h =
       record {
         domains = p .formed .domains;
-        pages = p .formed .pages;
+        size = p .formed .size;
         numbered = numbered-more N (pagesOf s) (pages (after k (regionsPer L k) (pointsPer L k) N s q)) (claims k (regionsPer L k) (pointsPer L k) N s q) (p .formed .numbered) (λ c. after-pages s q (eqb c) p h);
         shape = shape s p;
       }
@@ -835,7 +835,7 @@ removed-formed L k N (some t) p h =
     record {
       formed = record {
         domains = h .domains;
-        pages = h .pages;
+        size = h .size;
         numbered = subst (Numbered N) (sym (remove-pages t p)) (h .numbered);
         shape = at-levels k R P (remove t p) (levels t - 1) (whole k) (remove-shaped k R P p t (levels t - 1) (whole k) (h .shape));
       };

@@ -11,12 +11,14 @@ pub mod Pages
 pub mod Views
 pub mod Print
 pub mod Walk
+pub mod Fits
 pub mod Local
 pub mod History
 pub mod Answers
 pub mod Demands
 pub mod Pool
 pub mod Format
+pub mod Frames
 pub mod Reading
 pub mod Own
 pub mod Windows

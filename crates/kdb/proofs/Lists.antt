@@ -9,7 +9,7 @@ use native.Mathlib.Nat.{zero-mul, suc-mul, zero-add, suc-add, add-zero, add-mul}
 use lib.ListN.{length, take, drop, getD, length-append, take-append-drop, set, replicate, drop-of-length-le}
 use lib.Seq.{take-append-add, take-take, sets, sets-eq, set-out, take-all, length-take-le}
 use borrow.Author.Tests.{eq-eqb, ne-eqb, leb-true, leb-false}
-use Rattle.kdb.specs.Lists.{bit, only, tally, every, any, Each, gather, sum, many, upFrom, pad, same}
+use Rattle.kdb.specs.Lists.{bit, only, tally, every, anyOf, Each, gather, sum, many, upFrom, pad, same}
 
 -- tests
 pub and-l : (a b : Bool) → T (a && b) → T a
@@ -311,20 +311,20 @@ module _ {ℓ} {A : Type ℓ} where
   in-every f [] g = tt
   in-every f (a ∷ l) g = and-i (f a) _ (g a (in-head a l)) (in-every f l (λ b m. g b (in-tail b a l m)))
 
-  pub any-in : (f : A → Bool) (l : List A) → T (any f l) → 1 ≤ tally f l
+  pub any-in : (f : A → Bool) (l : List A) → T (anyOf f l) → 1 ≤ tally f l
   any-in f [] t = absurd t
   any-in f (a ∷ l) t =
       bool (f a) (λ y. omega (arith, to-bit (f a) y)) (λ n. omega (arith, any-in f l (go (f a) n t)))
     where
-      go : (b : Bool) → T (not b) → T (b || any f l) → T (any f l)
+      go : (b : Bool) → T (not b) → T (b || anyOf f l) → T (anyOf f l)
       go true n t = absurd n
       go false n t = t
 
-  pub in-any : (f : A → Bool) (l : List A) → 1 ≤ tally f l → T (any f l)
+  pub in-any : (f : A → Bool) (l : List A) → 1 ≤ tally f l → T (anyOf f l)
   in-any f [] h = absurd (omega arith)
   in-any f (a ∷ l) h = go (f a) h (in-any f l)
     where
-      go : (b : Bool) → 1 ≤ bit b + tally f l → (1 ≤ tally f l → T (any f l)) → T (b || any f l)
+      go : (b : Bool) → 1 ≤ bit b + tally f l → (1 ≤ tally f l → T (anyOf f l)) → T (b || anyOf f l)
       go true h r = tt
       go false h r = r (omega arith)
 
@@ -708,3 +708,15 @@ sum-once f ps n a h once out =
     go : (j m : ℕ) → m ≤ 1 → (m ≡ 0 → f j ≡ 0) → m * f j ≡ f j
     go j zero h z = zero-mul (f j) ∙ sym (z refl)
     go j (suc m) h z = let e : m ≡ 0 = omega arith in rw e (omega (arith, suc-mul 0 (f j), zero-mul (f j)))
+
+-- a part of a list: what holds of each element holds of each in the part
+module _ {ℓ} {A : Type ℓ} (P : A → Type 0) where
+  pub each-drop : (n : ℕ) (l : List A) → Each P l → Each P (drop n l)
+  each-drop zero l h = h
+  each-drop (suc n) [] h = tt
+  each-drop (suc n) (a ∷ l) h = each-drop n l (h .1)
+
+  pub each-take : (n : ℕ) (l : List A) → Each P l → Each P (take n l)
+  each-take zero l h = tt
+  each-take (suc n) [] h = tt
+  each-take (suc n) (a ∷ l) h = (h .0, each-take n l (h .1))

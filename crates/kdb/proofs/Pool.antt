@@ -112,7 +112,7 @@ formed-iff L k N s = (says, is)
         let q = and-4 (leb 1 k) (leb k 4) (leb 2 N) (leb N 512) (and-l (leb 1 k && leb k 4 && leb 2 N && leb N 512) _ a) in
         record {
           domains = (leb→le 1 k (q .0), leb→le k 4 (q .1));
-          pages = (leb→le 2 N (q .2), leb→le N 512 (q .3));
+          size = (leb→le 2 N (q .2), leb→le N 512 (q .3));
           numbered = numbered-says N (pagesOf s) (and-r (leb 1 k && leb k 4 && leb 2 N && leb N 512) _ a);
           shape = shape-says s (and-r (leb 1 k && leb k 4 && leb 2 N && leb N 512 && numbered N (pagesOf s)) _ h);
         }
@@ -121,7 +121,7 @@ formed-iff L k N s = (says, is)
     is h =
         and-i (leb 1 k && leb k 4 && leb 2 N && leb N 512 && numbered N (pagesOf s)) _
         (and-i (leb 1 k && leb k 4 && leb 2 N && leb N 512) _
-        (and-4i (leb 1 k) (leb k 4) (leb 2 N) (leb N 512) (le→leb 1 k (h .domains .0)) (le→leb k 4 (h .domains .1)) (le→leb 2 N (h .pages .0)) (le→leb N 512 (h .pages .1)))
+        (and-4i (leb 1 k) (leb k 4) (leb 2 N) (leb N 512) (le→leb 1 k (h .domains .0)) (le→leb k 4 (h .domains .1)) (le→leb 2 N (h .size .0)) (le→leb N 512 (h .size .1)))
         (says-numbered N (pagesOf s) (h .numbered)))
         (says-shape s (h .shape))
 
@@ -198,8 +198,8 @@ module _ (L : ℕ) (big : 5 ≤ L) (w : List ℕ) (s : State) (h : Stands L w s)
   stands-long =
       record {
         long = ap length (h .prints) ∙ print-length L (domains w) (pagesIn L w) s big (h .formed);
-        least = h .formed .pages .0;
-        most = h .formed .pages .1;
+        least = h .formed .size .0;
+        most = h .formed .size .1;
       }
 
   stands-size : getD w 1 0 ≡ pagesIn L w
@@ -225,7 +225,7 @@ stands-header L big w none h =
       least = h .formed .domains .0;
       most = h .formed .domains .1;
       size = stands-size L big w none h;
-      root = omega (arith, h .root, h .formed .pages .0);
+      root = omega (arith, h .root, h .formed .size .0);
       levels = omega (arith, h .levels);
       both = rw (h .root, h .levels);
       zeros = stands-zeros L big w none h;
@@ -554,13 +554,13 @@ module _ (L : ℕ) (w : List ℕ) (S : Sound L w) where
       let e = no-root z in
       let q = S .rootless e in
       printed-pages big none
-      (record { domains = (hd .least, hd .most); pages = (g .least, g .most); numbered = record { inside = λ c i. absurd (omega arith); once = λ c. omega arith }; shape = tt })
+      (record { domains = (hd .least, hd .most); size = (g .least, g .most); numbered = record { inside = λ c i. absurd (omega arith); once = λ c. omega arith }; shape = tt })
       e z (q .0) (q .1)
 
   tree-stands : 5 ≤ L → (levelsAt w ≡ 0 → ⊥) → Stands L w (some (treeAt L w (levelsAt w - 1) (rootAt w)))
   tree-stands big z =
       printed-pages big (some t)
-      (record { domains = (hd .least, hd .most); pages = (g .least, g .most); numbered = num; shape = subst (λ m. ShapedIn L w t m (whole (domains w))) (omega (arith, lv)) shape })
+      (record { domains = (hd .least, hd .most); size = (g .least, g .most); numbered = num; shape = subst (λ m. ShapedIn L w t m (whole (domains w))) (omega (arith, lv)) shape })
       (sym (root-at L w n j)) (omega (arith, lv)) count views
     where
       n : ℕ

@@ -16,9 +16,9 @@ use Rattle.kdb.specs.Tree.{Rec, Tree, leaf, node, Forest, fnil, fcons, S
 use Rattle.kdb.specs.Tiling.{Tiles, holders}
 use Rattle.kdb.specs.Pages.{points, regions, recsIn, entsIn, isPoints, isRegions, pointsPer, regionsPer}
 use Rattle.kdb.specs.Shape.{Shaped, ShapedF}
-use Rattle.kdb.specs.Pool.{domains, rootAt, levelsAt, pagesIn, numbers, view, ownRegion}
+use Rattle.kdb.specs.Pool.{domains, rootAt, levelsAt, pagesIn, numbers, view, ownRegion, isPage}
 use Rattle.kdb.specs.Print.{ents}
-use Rattle.kdb.specs.Walk.{Spot, spots, Tour, still, follow, through, readAt, isPage, goodPoints, goodRegions, tour, bounded, listWalk, End, rootless, bad, absent, here, Search, ends, after, spotOf, into, seek, findWalk}
+use Rattle.kdb.specs.Walk.{Spot, spots, Tour, still, follow, through, readAt, goodPoints, goodRegions, tour, bounded, listWalk, End, rootless, bad, absent, here, Search, ends, after, spotOf, into, seek, findWalk}
 use Rattle.kdb.specs.Demands.{Shares, met}
 use Rattle.kdb.proofs.Lists.{and-i, and-l, and-r, cases, bool-eq, is-false, of-bit, to-bit, no-bit, self, only-append, every-append, every-imp, tally-append, many-append, same-eq, In, in-head, in-left, in-right, every-many, once-length, once-tally}
 use Rattle.kdb.proofs.Box.{window-i, window-e, meets-of, at-meet}
@@ -425,7 +425,7 @@ module _ (L : ℕ) (w : List ℕ) where
   list-tree v none h = rw (h .levels)
   list-tree v (some t) h =
       let N = pagesIn L w in
-      let l : length (reads t v) < N = omega (arith, reads-few v t h, h .formed .pages) in
+      let l : length (reads t v) < N = omega (arith, reads-few v t h, h .formed .size) in
       ap (λ z. cond z still (bounded L w N (tour L w v (levelsAt w - 1) (rootAt w)))) (ne-eqb (levelsAt w) 0 (λ e. omega (arith, h .levels, some-levels t)))
       ∙ ap (λ a. bounded L w N a) (root-tour v t h)
       ∙ ap (λ z. cond z (walked t v) (record { read = take (N - 1) (reads t v); bad = true; found = [] })) (lt-ltb (length (reads t v)) N l)

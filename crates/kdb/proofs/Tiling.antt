@@ -8,7 +8,7 @@ use Prim.Native.Nat.{ℕ, zero, suc, _+_, _<_, _≤_, min, max}
 use native.Mathlib.Omega.{arith}
 use lib.Dec.{T, leb, ltb, leb→le, ltb→lt, lt→ltb, nleb→lt, nltb→le, T-not, not-T}
 use lib.ListN.{length}
-use Rattle.kdb.specs.Lists.{bit, tally, every, any, Each}
+use Rattle.kdb.specs.Lists.{bit, tally, every, anyOf, Each}
 use Rattle.kdb.specs.Box.{Side, Box, Key, within, solid, keyAt, lowerAt, upperAt, leftPart, rightPart}
 use Rattle.kdb.specs.Cut.{Lies, left, right, across, lies}
 use Rattle.kdb.specs.Tiling.{Disjoint, Apart, Tiles, holders, Counted, share, apart, fronted, minus, covers, tiles}
@@ -77,10 +77,10 @@ tiles-counted r bs t =
       once = λ p.
           let m = apart-most bs p (t .apart) in
           let e = ap bit (t .together p) in
-          bool (any (λ b. within b p) bs)
-          (λ y. omega (arith, to-bit (any (λ b. within b p) bs) y, any-in (λ b. within b p) bs y))
-          (λ n. let z : holders bs p < 1 = nleb→lt 1 (holders bs p) (not-T (leb 1 (holders bs p)) (λ y. T-not (any (λ b. within b p) bs) n (in-any (λ b. within b p) bs (leb→le 1 (holders bs p) y)))) in
-          omega (arith, no-bit (any (λ b. within b p) bs) (T-not (any (λ b. within b p) bs) n)));
+          bool (anyOf (λ b. within b p) bs)
+          (λ y. omega (arith, to-bit (anyOf (λ b. within b p) bs) y, any-in (λ b. within b p) bs y))
+          (λ n. let z : holders bs p < 1 = nleb→lt 1 (holders bs p) (not-T (leb 1 (holders bs p)) (λ y. T-not (anyOf (λ b. within b p) bs) n (in-any (λ b. within b p) bs (leb→le 1 (holders bs p) y)))) in
+          omega (arith, no-bit (anyOf (λ b. within b p) bs) (T-not (anyOf (λ b. within b p) bs) n)));
     }
 
 pub counted-tiles : (r : Box) (bs : List Box) → Counted r bs → Tiles r bs
@@ -88,7 +88,7 @@ counted-tiles r bs c =
     record {
       solids = c .solids;
       apart = most-apart bs (λ p. omega (arith, c .once p, bit-most (within r p)));
-      together = λ p. bool-eq (any (λ b. within b p) bs) (within r p)
+      together = λ p. bool-eq (anyOf (λ b. within b p) bs) (within r p)
           (λ y. of-bit (within r p) (omega (arith, c .once p, any-in (λ b. within b p) bs y)))
           (λ y. in-any (λ b. within b p) bs (omega (arith, c .once p, to-bit (within r p) y)));
     }
@@ -217,7 +217,7 @@ tiles-of r bs t =
     record {
       solids = and-l (every solid bs) _ t₂;
       apart = apart-says bs (and-r (every solid bs) _ t₂);
-      together = λ p. bool-eq (any (λ b. within b p) bs) (within r p)
+      together = λ p. bool-eq (anyOf (λ b. within b p) bs) (within r p)
           (λ y. let i = found (λ b. within b p) bs (any-in (λ b. within b p) bs y) in
           of-bit (within r p) (omega (arith, covers-says (r ∷ []) (i .0) (every-in (covers (r ∷ [])) (i .0) bs inner (i .2)) p (i .1) .held)))
           (λ y. in-any (λ b. within b p) bs (covers-says bs r (and-r (every solid bs && apart bs && every (covers (r ∷ [])) bs) _ t) p y .held));

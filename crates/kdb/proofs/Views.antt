@@ -8,7 +8,7 @@ use native.Mathlib.Omega.{arith}
 use lib.Dec.{T, ltb, eqb, eqb→eq, lt→ltb, ltb→lt}
 use lib.ListN.{length, length-append}
 use borrow.Author.Tests.{eq-eqb}
-use Rattle.kdb.specs.Lists.{bit, every, any, Each, sum, many, upFrom}
+use Rattle.kdb.specs.Lists.{bit, every, anyOf, Each, sum, many, upFrom}
 use Rattle.kdb.specs.Box.{∞, Box, Key, whole, within, solid}
 use Rattle.kdb.specs.Tiling.{Tiles}
 use Rattle.kdb.specs.Tree.{Rec, Tree, leaf, node, Forest, fnil, fcons, boxes, levels, levelsF, pages, pagesF, records, recordsF}
@@ -158,7 +158,7 @@ finite-whole (suc k) [] h f = absurd (omega arith)
 finite-whole (suc k) (x ∷ p) h f =
     within-i (record { lo = 0; hi = ∞ }) x (whole k) p (omega arith) (ltb→lt x ∞ (and-l (ltb x ∞) _ f)) (finite-whole k p (omega arith) (and-r (ltb x ∞) _ f))
 
-parts-under : (k : ℕ) (bs : List Box) → ((p : Key) → T (any (λ b. within b p) bs) → T (within (whole k) p)) → Each (Under k) bs
+parts-under : (k : ℕ) (bs : List Box) → ((p : Key) → T (anyOf (λ b. within b p) bs) → T (within (whole k) p)) → Each (Under k) bs
 parts-under k [] h = tt
 parts-under k (b ∷ bs) h = (record { keys = λ p i. h p (or-l (within b p) _ i) }, parts-under k bs (λ p i. h p (or-r (within b p) _ i)))
 

@@ -12,8 +12,8 @@ use Rattle.kdb.specs.Lists.{every, Each, many, same}
 use Rattle.kdb.specs.Box.{Box, Key, within, meets}
 use Rattle.kdb.specs.Tree.{Rec}
 use Rattle.kdb.specs.Pages.{Ent, recsIn, entsIn}
-use Rattle.kdb.specs.Pool.{domains, rootAt, levelsAt, pagesIn, view, goodLength, goodHeader}
-use Rattle.kdb.specs.Walk.{Spot, Tour, still, follow, through, isPage, goodPoints, goodRegions, tour, bounded, listWalk, End, rootless, bad, absent, here, Search, ends, into, seek, findWalk, spots, spotOf}
+use Rattle.kdb.specs.Pool.{domains, rootAt, levelsAt, pagesIn, view, goodLength, goodHeader, isPage}
+use Rattle.kdb.specs.Walk.{Spot, Tour, still, follow, through, goodPoints, goodRegions, tour, bounded, listWalk, End, rootless, bad, absent, here, Search, ends, into, seek, findWalk, spots, spotOf}
 use Rattle.kdb.proofs.Calls.{done}
 use Rattle.kdb.proofs.Pool.{header-iff}
 use Rattle.kdb.specs.Calls.{Call, format, check, place, remove, find, list, Buffers, finding, listing, filled, lent, outcome, windowOf, begins, walkOf}
@@ -43,7 +43,7 @@ into-every f below p h (e ∷ es) =
     cases (λ b. T (every f (cond b (below (e .child)) (into below p es) .read))) (within (e .box) p) (λ _. h (e .child)) (λ _. into-every f below p h es)
 
 -- at a page of the pool and elsewhere; at a good page and at a bad one
-at-page : {A : Type 0} (P : A → Type 0) (page good : Bool) (x y z : A) → (T page → P x) → (T page → P y) → P z → P (cond page (cond good x y) z)
+pub at-page : {A : Type 0} (P : A → Type 0) (page good : Bool) (x y z : A) → (T page → P x) → (T page → P y) → P z → P (cond page (cond good x y) z)
 at-page P false good x y z f g h = h
 at-page P true true x y z f g h = f tt
 at-page P true false x y z f g h = g tt

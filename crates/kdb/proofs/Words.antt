@@ -13,8 +13,8 @@ use borrow.Author.Tests.{eqb-true, ne-eqb, leb-true}
 use Rattle.kdb.specs.Box.{Key, sides}
 use Rattle.kdb.specs.Tree.{Rec}
 use Rattle.kdb.specs.Pages.{Ent, Page, blank, points, regions, regionsPer, pointsPer, recsIn, entsIn, isPoints, isRegions, readRecs, readEnts, page}
-use Rattle.kdb.specs.Pool.{domains, view}
-use Rattle.kdb.specs.Walk.{isPage, goodPoints, goodRegions}
+use Rattle.kdb.specs.Pool.{domains, view, isPage}
+use Rattle.kdb.specs.Walk.{goodPoints, goodRegions}
 use Rattle.kdb.proofs.Lists.{and-t}
 
 -- m values of f from i on

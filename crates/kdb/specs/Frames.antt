@@ -65,18 +65,18 @@ placeOf (x ∷ ws) = call (λ work. place work (take (length ws) (x ∷ ws)) (ge
 abbrev pub slots : List ℕ
 slots = replicate 64 0
 
-abbrev pub wordly : (List ℕ → Frame) → Option (List ℕ) → Frame
-wordly f none = unknown
-wordly f (some ws) = f ws
+abbrev pub withWords : (List ℕ → Frame) → Option (List ℕ) → Frame
+withWords f none = unknown
+withWords f (some ws) = f ws
 
 -- the first byte decides
 abbrev pub frameOf : ℕ → List ℕ → Frame
 frameOf first bs =
     cond (eqb first 0) (newOf bs)
-    (cond (eqb first 1) (wordly placeOf (wordsOf bs))
-    (cond (eqb first 2) (wordly (λ ws. call (λ work. remove ws)) (wordsOf bs))
-    (cond (eqb first 3) (wordly (λ ws. call (λ work. find ws)) (wordsOf bs))
-    (cond (eqb first 4) (wordly (λ ws. call (λ work. list ws slots)) (wordsOf bs))
+    (cond (eqb first 1) (withWords placeOf (wordsOf bs))
+    (cond (eqb first 2) (withWords (λ ws. call (λ work. remove ws)) (wordsOf bs))
+    (cond (eqb first 3) (withWords (λ ws. call (λ work. find ws)) (wordsOf bs))
+    (cond (eqb first 4) (withWords (λ ws. call (λ work. list ws slots)) (wordsOf bs))
     unknown))))
 
 abbrev pub framed : Option (List ℕ) → Frame

@@ -23,9 +23,9 @@ abbrev pub every {ℓ} : {A : Type ℓ} → (A → Bool) → List A → Bool
 every f [] = true
 every f (a ∷ l) = f a && every f l
 
-abbrev pub any {ℓ} : {A : Type ℓ} → (A → Bool) → List A → Bool
-any f [] = false
-any f (a ∷ l) = f a || any f l
+abbrev pub anyOf {ℓ} : {A : Type ℓ} → (A → Bool) → List A → Bool
+anyOf f [] = false
+anyOf f (a ∷ l) = f a || anyOf f l
 
 -- every element has the property
 abbrev pub Each {ℓ} : {A : Type ℓ} → (A → Type 0) → List A → Type 0

@@ -47,9 +47,13 @@ module _ (L : ℕ) where
       leb 1 (domains w) && leb (domains w) 4 && eqb (getD w 1 0) (pagesIn w) && ltb (rootAt w) (pagesIn w) && leb (levelsAt w) (pagesIn w - 1)
       && eqb (bit (eqb (rootAt w) 0)) (bit (eqb (levelsAt w) 0)) && every (eqb 0) (drop 5 (page L w 0))
 
+  -- j is a number from 1 to N − 1
+  abbrev pub isPage : List ℕ → ℕ → Bool
+  isPage w j = leb 1 j && ltb j (pagesIn w)
+
   -- page j as a page; the header and numbers past the last page count as free
   abbrev pub view : List ℕ → ℕ → Page
-  view w j = cond (leb 1 j && ltb j (pagesIn w)) (readPage (domains w) (page L w j)) blank
+  view w j = cond (isPage w j) (readPage (domains w) (page L w j)) blank
 
   -- the numbers 1 to N − 1
   abbrev pub numbers : List ℕ → List ℕ

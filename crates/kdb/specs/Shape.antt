@@ -81,7 +81,7 @@ shapedS L k (some t) = shaped k (regionsPer L k) (pointsPer L k) t (levels t - 1
 -- a state of k domains on N pages of L words
 pub record WellFormed (L k N : ℕ) (s : State) : Type 0 where
   pub domains : (1 ≤ k) × (k ≤ 4)
-  pub pages : (2 ≤ N) × (N ≤ 512)
+  pub size : (2 ≤ N) × (N ≤ 512)
   pub numbered : Numbered N (pagesOf s)
   pub shape : ShapedS L k s
 

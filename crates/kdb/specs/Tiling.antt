@@ -5,7 +5,7 @@ use mathlib.Core.List.{List, [], _∷_}
 use mathlib.Core.Path.{_≡_}
 use Prim.Native.Nat.{ℕ, min, max}
 use lib.Dec.{T, ltb}
-use Rattle.kdb.specs.Lists.{bit, tally, every, any, Each}
+use Rattle.kdb.specs.Lists.{bit, tally, every, anyOf, Each}
 use Rattle.kdb.specs.Box.{Side, Box, Key, within, solid}
 
 -- no key lies in both
@@ -19,7 +19,7 @@ Apart (b ∷ bs) = Each (Disjoint b) bs × Apart bs
 
 -- the regions together are r: a key lies in one of them exactly if it lies in r
 abbrev pub Together : Box → List Box → Type 0
-Together r bs = (p : Key) → any (λ b. within b p) bs ≡ within r p
+Together r bs = (p : Key) → anyOf (λ b. within b p) bs ≡ within r p
 
 pub record Tiles (r : Box) (bs : List Box) : Type 0 where
   pub solids : T (every solid bs)

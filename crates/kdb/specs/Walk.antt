@@ -9,7 +9,7 @@ use Rattle.kdb.specs.Lists.{only, same}
 use Rattle.kdb.specs.Box.{Box, Key, within, inWindow, meets}
 use Rattle.kdb.specs.Tree.{Rec}
 use Rattle.kdb.specs.Pages.{Ent, regionsPer, pointsPer, recsIn, entsIn, isPoints, isRegions}
-use Rattle.kdb.specs.Pool.{domains, rootAt, levelsAt, pagesIn, view}
+use Rattle.kdb.specs.Pool.{domains, rootAt, levelsAt, pagesIn, isPage, view}
 
 -- a record with its page and its slot, counted from 0
 pub record Spot : Type 0 where
@@ -52,9 +52,6 @@ through below v (e ∷ es) = follow (cond (meets (e .box) v) (below (e .child)) 
 
 -- L is the words of a page, w the pool's words
 module _ (L : ℕ) (w : List ℕ) where
-  abbrev pub isPage : ℕ → Bool
-  isPage j = leb 1 j && ltb j (pagesIn L w)
-
   -- a point page with a count within P, a region page with a count of 1 to R
   abbrev pub goodPoints : ℕ → Bool
   goodPoints j = isPoints (view L w j) && leb (length (recsIn (view L w j))) (pointsPer L (domains w))
@@ -65,10 +62,10 @@ module _ (L : ℕ) (w : List ℕ) where
   -- list's walk of window v from page j, n levels above the point pages, with no bound
   abbrev pub tour : Box → ℕ → ℕ → Tour
   tour v zero j =
-      cond (isPage j) (cond (goodPoints j) (readAt j (only (λ s. inWindow v (s .rec .key)) (spots j 0 (recsIn (view L w j))))) (badAt j)) astray
+      cond (isPage L w j) (cond (goodPoints j) (readAt j (only (λ s. inWindow v (s .rec .key)) (spots j 0 (recsIn (view L w j))))) (badAt j)) astray
   tour v (suc n) j =
       let below = through (tour v n) v (entsIn (view L w j)) in
-      cond (isPage j) (cond (goodRegions j) (follow (readAt j []) below) (badAt j)) astray
+      cond (isPage L w j) (cond (goodRegions j) (follow (readAt j []) below) (badAt j)) astray
 
   -- the walk stops before page read number N, as at a bad page
   abbrev pub bounded : ℕ → Tour → Tour

@@ -102,7 +102,7 @@ module _ (L k N : ℕ) (s : State) (w : List ℕ) (big : 5 ≤ L) (wf : WellForm
   fitP = omega (arith, points-fit L k (pointsPer L k) (omega arith))
 
   one : 1 ≤ N
-  one = omega (arith, wf .pages .0)
+  one = omega (arith, wf .size .0)
 
   -- the tree t1, held in words that are else as before, and then its header
   finish : (t1 : Tree) (n1 : ℕ) (w1 free : List ℕ) → WellFormed L k N (some t1) → Fits k R P t1 n1 → Holds L (page L w1) t1 → length w1 ≡ length w
@@ -142,7 +142,7 @@ module _ (L k N : ℕ) (t : Tree) (w : List ℕ) (big : 5 ≤ L) (wf : WellForme
           let sp = h .2 in
           rw (topped-broke L N k (root t) (levels t) (length (records t)) g d x (root (s .rt)) (h .0)
           ∙ root-none L N k d x (root t) (root (s .rt)) (levels t) (length (records t)) (g .words)
-          (claim-none L N (g .words) 1 0 (omega (arith, wf .pages .0)) (subst (λ l. Free L N (g .words) l) e (sp .left-over))))
+          (claim-none L N (g .words) 1 0 (omega (arith, wf .size .0)) (subst (λ l. Free L N (g .words) l) e (sp .left-over))))
       go (r ∷ free) e after =
           let sp = h .2 in
           let wd = 2 * k + 1 in
@@ -160,7 +160,7 @@ module _ (L k N : ℕ) (t : Tree) (w : List ℕ) (big : 5 ≤ L) (wf : WellForme
           let nL : length EL ≡ wd = ent-length k (ent bL (root (s .lt))) kL in
           let nR : length ER ≡ wd = ent-length k (ent bR (root (s .rt))) kR in
           let room : 4 + 2 * wd ≤ L = omega (arith, mul-le-mul-right wd two, fitR L k N (some t) w big wf is) in
-          let o2 = claim-some L N w1 1 0 r free (omega arith) (omega (arith, wf .pages .0)) (omega arith) (subst (λ l. Free L N w1 l) e (sp .left-over)) in
+          let o2 = claim-some L N w1 1 0 r free (omega arith) (omega (arith, wf .size .0)) (omega arith) (subst (λ l. Free L N w1 l) e (sp .left-over)) in
           let w2 = freshIn L w1 r 1 0 in
           let w3 = appendIn L wd w2 r EL in
           let w4 = appendIn L wd w3 r ER in
@@ -197,7 +197,7 @@ module _ (L k N : ℕ) (t : Tree) (w : List ℕ) (big : 5 ≤ L) (wf : WellForme
       let P = pointsPer L k in
       let free = freeOf N (pages t) in
       let g = growIn L N k R P (q .key) (q .loc) (levels t - 1) (root t) w in
-      let o = grows L N k R P (omega arith) (fitR L k N (some t) w big wf is) (fitP L k N (some t) w big wf is) (omega (arith, wf .pages .0)) q (h .key) (levels t - 1) .good t w free
+      let o = grows L N k R P (omega arith) (fitR L k N (some t) w big wf is) (fitP L k N (some t) w big wf is) (omega (arith, wf .size .0)) q (h .key) (levels t - 1) .good t w free
       (shaped-fits k R P t (levels t - 1) (whole k) (whole-under k) (wf .shape)) (stood-held L k N t w big wf is) (stood-free L k N (some t) w big wf is) (free-apart N (pages t) (wf .numbered)) (h .fair) in
       answer (grow k R P t q free) g (h .regions) o (h .after)
 
@@ -208,10 +208,10 @@ module _ (L k N : ℕ) (w : List ℕ) (big : 5 ≤ L) (wf : WellFormed L k N non
     where
       go : (l : List ℕ) → Free L N w l → ((s′ : State) → first q l ≡ some s′ → WellFormed L k N s′ × (length (recordsOf s′) ≡ 0 + 1)) → freeOf N [] ≡ l
           → restored w (firstIn L N k (q .key) (q .loc) w) ≡ answered L k N w (first q l)
-      go [] f after e = rw (first-none L N k (q .key) (q .loc) w (claim-none L N w 2 0 (omega (arith, wf .pages .0)) f))
+      go [] f after e = rw (first-none L N k (q .key) (q .loc) w (claim-none L N w 2 0 (omega (arith, wf .size .0)) f))
       go (r ∷ free) f after e =
           let wd = k + 1 in
-          let o2 = claim-some L N w 2 0 r free (omega arith) (omega (arith, wf .pages .0)) (omega arith) f in
+          let o2 = claim-some L N w 2 0 r free (omega arith) (omega (arith, wf .size .0)) (omega arith) f in
           let w2 = freshIn L w r 2 0 in
           let w3 = appendIn L wd w2 r (wordsR q) in
           let z1 : 0 ≡ 0 * wd = omega (arith, zero-mul wd) in

@@ -17,8 +17,8 @@ use Rattle.kdb.specs.Box.{Key, whole, within}
 use Rattle.kdb.specs.Tree.{Rec, Tree, leaf, node, Forest, fnil, fcons, State, root, levels, levelsF, pages, pagesF, records, recordsF}
 use Rattle.kdb.specs.Steps.{without, remove, removeF, removed}
 use Rattle.kdb.specs.Pages.{points, regions, layout, recsIn, entsIn, regionsPer, pointsPer, wordsR, printPage, page}
-use Rattle.kdb.specs.Pool.{domains, countAt, pagesIn, view}
-use Rattle.kdb.specs.Walk.{Spot, spots, isPage, goodPoints, goodRegions, rootless, bad, here, Search, ends, after, spotOf, into, seek, findWalk}
+use Rattle.kdb.specs.Pool.{domains, countAt, pagesIn, view, isPage}
+use Rattle.kdb.specs.Walk.{Spot, spots, goodPoints, goodRegions, rootless, bad, here, Search, ends, after, spotOf, into, seek, findWalk}
 use Rattle.kdb.specs.Shape.{WellFormed}
 use Rattle.kdb.specs.Print.{ents, header, printed}
 use Rattle.kdb.proofs.Lists.{bool, is-true, is-false, choice-true, choice-false, no-bit, self, append-each, gather-append, many-append, length-pad, pad-nil, sets-append, pad-gap}

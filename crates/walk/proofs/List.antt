@@ -13,8 +13,8 @@ use borrow.Author.Tests.{lt-ltb, le-ltb, ltb-true, ltb-false, eq-eqb, ne-eqb}
 use Rattle.kdb.specs.Lists.{only}
 use Rattle.kdb.specs.Box.{Box, inWindow, meets}
 use Rattle.kdb.specs.Pages.{readRecs, readEnts, recsIn, entsIn}
-use Rattle.kdb.specs.Pool.{levelsAt, rootAt, pagesIn, view}
-use Rattle.kdb.specs.Walk.{Spot, spots, Tour, still, astray, badAt, readAt, follow, through, isPage, goodPoints, goodRegions, tour, bounded, listWalk}
+use Rattle.kdb.specs.Pool.{levelsAt, rootAt, pagesIn, view, isPage}
+use Rattle.kdb.specs.Walk.{Spot, spots, Tour, still, astray, badAt, readAt, follow, through, goodPoints, goodRegions, tour, bounded, listWalk}
 use Rattle.kdb.specs.Calls.{L}
 use Rattle.kdb.proofs.Lists.{and-t, sets-append}
 use Rattle.kdb.proofs.Words.{rec-turn, ent-turn}

@@ -10,8 +10,8 @@ use lib.ListN.{length, drop, getD}
 use borrow.Author.Tests.{leb-true, ltb-true}
 use Rattle.kdb.specs.Lists.{bit}
 use Rattle.kdb.specs.Pages.{recsIn, entsIn, readRecs, readEnts}
-use Rattle.kdb.specs.Pool.{domains, rootAt, levelsAt, pagesIn, goodHeader, view}
-use Rattle.kdb.specs.Walk.{isPage, goodPoints, goodRegions}
+use Rattle.kdb.specs.Pool.{domains, rootAt, levelsAt, pagesIn, goodHeader, view, isPage}
+use Rattle.kdb.specs.Walk.{goodPoints, goodRegions}
 use Rattle.kdb.specs.Calls.{L}
 use Rattle.kdb.proofs.Lists.{and-t}
 use Rattle.kdb.proofs.Words.{good-points, good-regions, points-in, regions-in}

@@ -12,8 +12,8 @@ use borrow.Author.Tests.{eq-eqb, ne-eqb}
 use Rattle.kdb.specs.Lists.{same}
 use Rattle.kdb.specs.Box.{Key, within}
 use Rattle.kdb.specs.Pages.{Ent, readRecs, readEnts, entsIn, recsIn}
-use Rattle.kdb.specs.Pool.{levelsAt, rootAt, view}
-use Rattle.kdb.specs.Walk.{Search, ends, rootless, bad, isPage, goodPoints, goodRegions, spots, spotOf, into, seek, findWalk}
+use Rattle.kdb.specs.Pool.{levelsAt, rootAt, view, isPage}
+use Rattle.kdb.specs.Walk.{Search, ends, rootless, bad, goodPoints, goodRegions, spots, spotOf, into, seek, findWalk}
 use Rattle.kdb.specs.Calls.{L}
 use Rattle.kdb.proofs.Words.{rec-turn, ent-turn}
 use Rattle.words.specs.Words.{wordAt, pointAt, pointLocation, keysOf, regionAt}

@@ -1,0 +1,220 @@
+-- The answers of the calls as text: an outcome's number, values and locations are what the code writes.
+use mathlib.Core.Bool.{Bool, true, false, _&&_, cond}
+use mathlib.Core.List.{List, [], _∷_, _++_}
+use mathlib.Core.Path.{_≡_, refl, sym, ap, _∙_}
+use Prim.Native.Nat.{ℕ, suc, _+_, _-_, _*_, _/_, _%_, _<_, _≤_, min}
+use native.Mathlib.Omega.{arith}
+use lib.ListN.{length, getD, take, drop, replicate, length-replicate, take-append-drop}
+use lib.Seq.{take-nil, take-at, take-take, getD-take, length-take-le}
+use lib.Dec.{leb, eqb}
+use borrow.Author.Tests.{lt-leb, ne-eqb, eq-eqb}
+use Rattle.kdb.specs.Pool.{goodLength}
+use Rattle.kdb.specs.Calls.{L, format, place, remove, find, list, Buffers, lent, Outcome, gives, refuses, _or_, unless, judge, goodDomains, core, outcome, Promise}
+use Rattle.kdb.specs.Frames.{newOf, placeOf, new, call, unknown, Reply, found, answerText, renewed, answered, obey}
+use Rattle.kdb.proofs.Lists.{and-false}
+use Rattle.kdb.proofs.Calls.{refusal-keeps}
+use Rattle.kdb.proofs.Frames.{format-length, place-work}
+use Rattle.index.specs.Answers.{alone, with, formattedAs, foundAs, listedAs}
+use Rattle.index.specs.declared.Formatted.{Formatted}
+use Rattle.index.specs.declared.Formatted.the-variants as formats
+use Rattle.index.specs.declared.Found.{Found}
+use Rattle.index.specs.declared.Found.the-variants as finds
+use Rattle.index.specs.declared.Listed.{Listed}
+use Rattle.index.specs.declared.Listed.the-variants as lists
+use Rattle.frames.specs.Pending.{placedAs, removedAs}
+use Rattle.frames.specs.declared.pending.Placed.{Placed}
+use Rattle.frames.specs.declared.pending.Placed.the-variants as places
+use Rattle.frames.specs.declared.pending.Removed.{Removed}
+use Rattle.frames.specs.declared.pending.Removed.the-variants as removes
+use Rattle.frames.proofs.Replies.{take-least}
+use Rattle.frames.specs.Text.{valuesOf, textOf, Written}
+use Rattle.frames.specs.State.{Replied, Spoken}
+
+-- an answer without values, and one with two
+pub refused-spoken : (n : ℕ) (b : Buffers) {number count first second : ℕ} → (number ≡ n) × ((count ≡ 0) × (first ≡ 0)) → Spoken (refuses n b) number count first second
+refused-spoken n b {number} {count} {first} {second} e =
+    record { number-is = e .0; values-are = ap (λ c. valuesOf c first second) (e .1 .0); first-is = e .1 .1 }
+
+pub one-spoken : (x : ℕ) (b : Buffers) → Spoken (gives (x ∷ []) b) 0 1 x 0
+one-spoken x b = record { number-is = refl; values-are = refl; first-is = refl }
+
+pub two-spoken : (x y : ℕ) (b : Buffers) → Spoken (gives (x ∷ y ∷ []) b) 0 2 x y
+two-spoken x y b = record { number-is = refl; values-are = refl; first-is = refl }
+
+-- the text of an outcome that was told so, with the locations that its slots took
+pub spoken-text : {o : Outcome} {number count first second : ℕ} → Spoken o number count first second → answerText o ≡ textOf number (valuesOf count first second) (take first (o .after .answer))
+unfolding textOf
+spoken-text {o} {number} {count} {first} {second} s = rw (s .number-is, s .values-are, s .first-is)
+
+-- the reply of a call that kept its promise
+pub replied : {o : Outcome} {p : Reply} {number count first second words at at′ : ℕ} {pool out out′ : List ℕ} (slots : List ℕ) → answered o ≡ p → Spoken o number count first second → take words pool ≡ o .after .pool
+    → take first (o .after .answer) ≡ slots → Written out at (textOf number (valuesOf count first second) slots) out′ at′ → at′ ≤ at + 531 → words ≤ 16384
+    → Replied p out at pool out′ words at′
+replied slots p s e f t r h = rw (← p) (record { holds = e; text = rw (spoken-text s, f) t; room = r; within = h })
+
+-- the buffers of each answer
+pub found-after : (f : Found) (w : List ℕ) → foundAs f w .after ≡ alone w
+found-after (finds.At l r) w = refl
+found-after finds.NotPages w = refl
+found-after finds.BadHeader w = refl
+found-after finds.NotWords w = refl
+found-after finds.Infinite w = refl
+found-after finds.BadPage w = refl
+found-after finds.Absent w = refl
+
+pub listed-after : (f : Listed) (w a : List ℕ) → listedAs f w a .after ≡ with w a
+listed-after (lists.Counted t r) w a = refl
+listed-after lists.NotPages w a = refl
+listed-after lists.BadHeader w a = refl
+listed-after lists.NotWords w a = refl
+listed-after lists.Infinite w a = refl
+listed-after lists.Crossed w a = refl
+listed-after lists.BadPage w a = refl
+
+pub formatted-after : (f : Formatted) (w : List ℕ) → formattedAs f w .after ≡ alone w
+formatted-after formats.Done w = refl
+formatted-after formats.NotPages w = refl
+formatted-after formats.NotDomains w = refl
+
+placed-after : (f : Placed) (w work : List ℕ) → placedAs f w work .after ≡ record { pool = w; work = work; answer = [] }
+placed-after places.Done w work = refl
+placed-after places.NotPages w work = refl
+placed-after places.BadHeader w work = refl
+placed-after places.NotWords w work = refl
+placed-after places.Infinite w work = refl
+placed-after places.NotSound w work = refl
+placed-after places.Present w work = refl
+placed-after places.Full w work = refl
+
+removed-after : (f : Removed) (w : List ℕ) → removedAs f w .after ≡ alone w
+removed-after (removes.At l) w = refl
+removed-after removes.NotPages w = refl
+removed-after removes.BadHeader w = refl
+removed-after removes.NotWords w = refl
+removed-after removes.Infinite w = refl
+removed-after removes.NotSound w = refl
+removed-after removes.Absent w = refl
+
+formatted-text : (f : Formatted) (w : List ℕ) {number count first second : ℕ} → Spoken (formattedAs f w) number count first second
+    → answerText (formattedAs f w) ≡ textOf number (valuesOf count first second) []
+formatted-text f w {number} {count} {first} {second} s =
+    spoken-text s ∙ ap (textOf number (valuesOf count first second)) (ap (λ (b : Buffers). take first (b .answer)) (formatted-after f w) ∙ take-nil first)
+
+-- find and list
+pub find-replied : (f : Found) (words : ℕ) (pool p : List ℕ) {number count first second at at′ : ℕ} {out out′ : List ℕ} → Promise (take words pool) (find p) (foundAs f (take words pool))
+    → Spoken (foundAs f (take words pool)) number count first second → Written out at (textOf number (valuesOf count first second) []) out′ at′ → at′ ≤ at + 531 → words ≤ 16384
+    → Replied (answered (outcome (take words pool) (find p))) out at pool out′ words at′
+find-replied f words pool p {number} {count} {first} q s t r h =
+    let w = take words pool in
+    replied [] (ap answered (q .kept)) s (sym (ap (λ (b : Buffers). b .pool) (found-after f w))) (ap (λ (b : Buffers). take first (b .answer)) (found-after f w) ∙ take-nil first) t r h
+
+pub list-replied : (f : Listed) (words : ℕ) (pool v full slots : List ℕ) (shown : ℕ) {number count first second at at′ : ℕ} {out out′ : List ℕ} → Promise (take words pool) (list v slots) (listedAs f (take words pool) full)
+    → Spoken (listedAs f (take words pool) full) number count first second → length full ≡ 64 → shown ≡ min first 64
+    → Written out at (textOf number (valuesOf count first second) (take shown full)) out′ at′ → at′ ≤ at + 531 → words ≤ 16384
+    → Replied (answered (outcome (take words pool) (list v slots))) out at pool out′ words at′
+list-replied f words pool v full slots shown {number} {count} {first} q s l m t r h =
+    let w = take words pool in
+    let some : take first full ≡ take shown full = take-least first full ∙ ap (λ n. take n full) (ap (min first) l ∙ sym m) in
+    replied (take shown full) (ap answered (q .kept)) s (sym (ap (λ (b : Buffers). b .pool) (listed-after f w full)))
+    (ap (λ (b : Buffers). take first (b .answer)) (listed-after f w full) ∙ some) t r h
+
+-- a format's frame: 3 bytes, or none
+pub new-other : (bytes : List ℕ) → (length bytes ≡ 3 → ⊥) → newOf bytes ≡ unknown
+new-other [] h = refl
+new-other (k ∷ []) h = refl
+new-other (k ∷ a ∷ []) h = refl
+new-other (k ∷ a ∷ b ∷ []) h = absurd (h refl)
+new-other (k ∷ a ∷ b ∷ c ∷ bytes) h = refl
+
+pub new-three : (bytes : List ℕ) → length bytes ≡ 3 → newOf bytes ≡ new (getD bytes 0 0) (256 * getD bytes 1 0 + getD bytes 2 0)
+new-three [] h = absurd (omega arith)
+new-three (k ∷ []) h = absurd (omega arith)
+new-three (k ∷ a ∷ []) h = absurd (omega arith)
+new-three (k ∷ a ∷ b ∷ []) h = refl
+new-three (k ∷ a ∷ b ∷ c ∷ bytes) h = absurd (omega arith)
+
+-- more than 512 pages are refused
+big : (k n : ℕ) (v : List ℕ) → length v ≡ L * n → 512 < n → outcome v (format k) ≡ refuses 1 (lent v (format k))
+unfolding outcome goodLength
+big k n v e h =
+    let m : length v / L ≡ n = rw e (omega arith) in
+    let no : goodLength L v ≡ false = rw (m, lt-leb n 512 h) (and-false (eqb (length v % L) 0 && leb 2 n)) in
+    ap (λ t. unless t 1 (lent v (format k)) (judge ((goodDomains k or 2) ∷ []) (lent v (format k)) (core v (format k)))) no
+
+pub new-big : (w pool : List ℕ) (words k n : ℕ) {at at′ : ℕ} {out out′ : List ℕ} → 512 < n → Written out at (textOf 1 [] []) out′ at′ → at′ ≤ at + 531 → words ≤ 16384 → take words pool ≡ w
+    → Replied (obey w (new k n)) out at pool out′ words at′
+unfolding textOf
+new-big w pool words k n h t r l e =
+    rw (big k n (replicate (L * n) 0) (length-replicate (L * n) 0) h) (record { holds = e; text = t; room = r; within = l })
+
+-- what a format of the first words of a buffer makes of the pool
+module _ (f : Formatted) (w pool part : List ℕ) (k n : ℕ) (fits : 32 * n ≤ length pool) (q : Promise (take (32 * n) pool) (format k) (formattedAs f part)) where
+  new-same : renewed w (formattedAs f part) ≡ obey w (new k n)
+  new-same =
+      ap (renewed w) (q .kept)
+      ∙ format-length w (take (32 * n) pool) (replicate (L * n) 0) k (length-take-le (32 * n) pool fits ∙ sym (length-replicate (L * n) 0))
+
+  pub new-done : {number count first second at at′ : ℕ} {out out′ : List ℕ} → Spoken (formattedAs f part) number count first second → number ≡ 0 → length part ≡ length (take (32 * n) pool)
+      → Written out at (textOf number (valuesOf count first second) []) out′ at′ → at′ ≤ at + 531 → n ≤ 512 → Replied (obey w (new k n)) out at (part ++ drop (32 * n) pool) out′ (32 * n) at′
+  new-done {number} {count} {first} {second} s z l t r h =
+      let done : formattedAs f part .number ≡ 0 = sym (s .number-is) ∙ z in
+      rw (← new-same)
+      (record {
+        holds =
+            take-at part (drop (32 * n) pool) (32 * n) (l ∙ length-take-le (32 * n) pool fits)
+            ∙ sym (ap (λ (b : Buffers). b .pool) (formatted-after f part))
+            ∙ ap (λ m. cond (eqb m 0) (formattedAs f part .after .pool) w) (sym done);
+        text = rw (formatted-text f part s) t;
+        room = r;
+        within = omega arith;
+      })
+
+  pub new-refused : (words : ℕ) {number count first second at at′ : ℕ} {out out′ : List ℕ} → Spoken (formattedAs f part) number count first second → (number ≡ 0 → ⊥)
+      → Written out at (textOf number (valuesOf count first second) []) out′ at′ → at′ ≤ at + 531 → words ≤ 16384 → take words pool ≡ w → Replied (obey w (new k n)) out at (part ++ drop (32 * n) pool) out′ words at′
+  new-refused words {number} {count} {first} {second} s z t r h e =
+      let no : formattedAs f part .number ≡ 0 → ⊥ = λ d. z (s .number-is ∙ d) in
+      let old : part ≡ take (32 * n) pool =
+      sym (ap (λ (b : Buffers). b .pool) (formatted-after f part)) ∙ ap (λ (o : Outcome). o .after .pool) (q .kept)
+      ∙ refusal-keeps (take (32 * n) pool) (format k) .kept (λ d. no (ap (λ (o : Outcome). o .number) (q .kept) ∙ d)) in
+      let whole : part ++ drop (32 * n) pool ≡ pool = ap (λ l. l ++ drop (32 * n) pool) old ∙ take-append-drop (32 * n) pool in
+      rw (← new-same)
+      (record {
+        holds = ap (take words) whole ∙ e ∙ ap (λ t. cond t (formattedAs f part .after .pool) w) (sym (ne-eqb (formattedAs f part .number) 0 no));
+        text = rw (formatted-text f part s) t;
+        room = r;
+        within = h;
+      })
+
+-- the location is the last word, the point those before it
+place-split : (l : List ℕ) → 0 < length l → placeOf l ≡ call (λ work. place work (take (length l - 1) l) (getD l (length l - 1) 0))
+place-split [] h = absurd (omega arith)
+place-split (x ∷ ws) h = let e : length ws ≡ suc (length ws) - 1 = omega arith in ap (λ n. call (λ work. place work (take n (x ∷ ws)) (getD (x ∷ ws) n 0))) e
+
+pub place-words : (ws : List ℕ) (n : ℕ) → 0 < n → n ≤ length ws → placeOf (take n ws) ≡ call (λ work. place work (take (n - 1) ws) (getD ws (n - 1) 0))
+place-words ws n h k =
+    let e : length (take n ws) ≡ n = length-take-le n ws k in
+    place-split (take n ws) (omega arith)
+    ∙ ap (λ m. call (λ work. place work (take (m - 1) (take n ws)) (getD (take n ws) (m - 1) 0))) e
+    ∙ ap (λ p. call (λ work. place work p (getD (take n ws) (n - 1) 0))) (take-take (n - 1) n ws (omega arith))
+    ∙ ap (λ l. call (λ work. place work (take (n - 1) ws) l)) (getD-take n ws (n - 1) 0 (omega arith))
+
+-- place and remove leave the pool's part changed and the rest of the buffer as it was
+pub place-replied : (f : Placed) (words : ℕ) (pool part work after p : List ℕ) (l : ℕ) {number count first second at at′ : ℕ} {out out′ : List ℕ}
+    → Promise (take words pool) (place (take words work) p l) (placedAs f part after) → Spoken (placedAs f part after) number count first second → length part ≡ length (take words pool)
+    → length (take words work) ≡ length (take words pool) → words ≤ length pool → Written out at (textOf number (valuesOf count first second) []) out′ at′ → at′ ≤ at + 531 → words ≤ 16384
+    → Replied (obey (take words pool) (call (λ work. place work p l))) out at (part ++ drop words pool) out′ words at′
+place-replied f words pool part work after p l {number} {count} {first} q s k m fits t r h =
+    let w = take words pool in
+    let same : answered (outcome w (place (take words work) p l)) ≡ answered (outcome w (place (replicate (length w) 0) p l)) =
+    ap answered (place-work w p l (take words work) (replicate (length w) 0) (m ∙ sym (length-replicate (length w) 0))) in
+    replied [] (ap answered (q .kept) ∙ same) s
+    (take-at part (drop words pool) words (k ∙ length-take-le words pool fits) ∙ sym (ap (λ (b : Buffers). b .pool) (placed-after f part after)))
+    (ap (λ (b : Buffers). take first (b .answer)) (placed-after f part after) ∙ take-nil first) t r h
+
+pub remove-replied : (f : Removed) (words : ℕ) (pool part p : List ℕ) {number count first second at at′ : ℕ} {out out′ : List ℕ} → Promise (take words pool) (remove p) (removedAs f part)
+    → Spoken (removedAs f part) number count first second → length part ≡ length (take words pool) → words ≤ length pool → Written out at (textOf number (valuesOf count first second) []) out′ at′ → at′ ≤ at + 531
+    → words ≤ 16384 → Replied (answered (outcome (take words pool) (remove p))) out at (part ++ drop words pool) out′ words at′
+remove-replied f words pool part p {number} {count} {first} q s k fits t r h =
+    replied [] (ap answered (q .kept)) s
+    (take-at part (drop words pool) words (k ∙ length-take-le words pool fits) ∙ sym (ap (λ (b : Buffers). b .pool) (removed-after f part)))
+    (ap (λ (b : Buffers). take first (b .answer)) (removed-after f part) ∙ take-nil first) t r h

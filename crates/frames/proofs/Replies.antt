@@ -1,0 +1,72 @@
+-- A frame's bytes by their first byte, and the replies that stand in the buffers.
+use mathlib.Core.Bool.{Bool, true, false, cond}
+use mathlib.Core.List.{List, [], _∷_, _++_}
+use mathlib.Core.Option.{Option, none, some}
+use mathlib.Core.Path.{_≡_, refl, sym, ap, ap₂, _∙_}
+use Prim.Native.Nat.{ℕ, zero, suc, _+_, _-_, _<_, _≤_, min}
+use native.Mathlib.Omega.{arith}
+use lib.Dec.{leb, eqb, leb→le, nleb→lt}
+use lib.ListN.{length, getD, take, drop}
+use lib.Seq.{take-all, take-length}
+use borrow.Author.Tests.{le-leb, lt-leb, ne-eqb}
+use Rattle.kdb.specs.Frames.{Frame, unknown, withWords, wordsOf, frameOf, framed, parse, bytesOf, Reply, refusal, obey, reply}
+use Rattle.kdb.proofs.Lists.{bool}
+use Rattle.frames.specs.Text.{counted, textOf, Written}
+use Rattle.frames.specs.State.{Replied, Unframed}
+
+-- the number 255 alone is FF
+pub ff : textOf 255 [] [] ≡ 70 ∷ 70 ∷ 10 ∷ []
+unfolding textOf
+ff = refl
+
+pub unframed : (w : List ℕ) (words : ℕ) {out out′ : List ℕ} {at at′ : ℕ} → Unframed out at out′ at′ → words ≤ 16384 → Replied (refusal (take words w)) out at w out′ words at′
+unframed w words u h = record { holds = refl; text = u .text; room = u .room; within = h }
+
+pub frame-empty : (bytes : List ℕ) → length bytes ≡ 0 → framed (some bytes) ≡ unknown
+frame-empty [] h = refl
+frame-empty (b ∷ bytes) h = absurd (omega arith)
+
+-- the first byte is k, and the part behind it is what follows
+pub frame-first : (bytes : List ℕ) (k : ℕ) → (length bytes ≡ 0 → ⊥) → getD bytes 0 0 ≡ k → framed (some bytes) ≡ frameOf k (take (length bytes - 1) (drop 1 bytes))
+frame-first [] k h e = absurd (h refl)
+frame-first (b ∷ bytes) k h e = ap₂ frameOf e (sym (take-all (suc (length bytes) - 1) bytes (omega arith)))
+
+-- and its words are those that were read
+pub frame-words : (bytes ws : List ℕ) (k n : ℕ) (f : List ℕ → Frame) → (length bytes ≡ 0 → ⊥) → getD bytes 0 0 ≡ k → counted 16 n ws ≡ wordsOf (take (length bytes - 1) (drop 1 bytes))
+    → ((bs : List ℕ) → frameOf k bs ≡ withWords f (wordsOf bs)) → framed (some bytes) ≡ withWords f (counted 16 n ws)
+frame-words bytes ws k n f h e q a = frame-first bytes k h e ∙ a (take (length bytes - 1) (drop 1 bytes)) ∙ ap (withWords f) (sym q)
+
+-- a first byte of 5 or more
+pub frame-other : (bytes : List ℕ) → (length bytes ≡ 0 → ⊥) → 5 ≤ getD bytes 0 0 → framed (some bytes) ≡ unknown
+frame-other [] h k = absurd (h refl)
+frame-other (b ∷ bytes) h k =
+    simp (ne-eqb b 0 (λ e. omega arith), ne-eqb b 1 (λ e. omega arith), ne-eqb b 2 (λ e. omega arith), ne-eqb b 3 (λ e. omega arith), ne-eqb b 4 (λ e. omega arith))
+
+-- an empty line
+pub reply-empty : (w line : List ℕ) → length line ≡ 0 → reply w line ≡ record { pool = w; text = [] }
+unfolding reply
+reply-empty w [] h = refl
+reply-empty w (a ∷ line) h = absurd (omega arith)
+
+-- a line of up to 128 characters, by the bytes that were read, which are none for 65
+pub reply-bytes : (w line bytes : List ℕ) (n : ℕ) → (length line ≡ 0 → ⊥) → length line ≤ 128 → counted 64 n bytes ≡ bytesOf line → reply w line ≡ obey w (framed (counted 64 n bytes))
+unfolding reply
+reply-bytes w [] bytes n h k e = absurd (h refl)
+reply-bytes w (a ∷ line) bytes n h k e = rw (le-leb (length (a ∷ line)) 128 k) (ap (λ o. obey w (framed o)) (sym e))
+
+pub counted-some : (m n : ℕ) (l : List ℕ) → n ≤ m → counted m n l ≡ some (take n l)
+counted-some m n l h = rw (le-leb n m h)
+
+pub counted-none : (m n : ℕ) (l : List ℕ) → m < n → counted m n l ≡ none
+counted-none m n l h = rw (lt-leb n m h)
+
+-- more than all is all
+pub take-least : (n : ℕ) (l : List ℕ) → take n l ≡ take (min n (length l)) l
+take-least n l =
+    bool (leb n (length l))
+    (λ t. let e : min n (length l) ≡ n = omega (arith, leb→le n (length l) t) in rw e)
+    (λ t. let e : min n (length l) ≡ length l = omega (arith, nleb→lt n (length l) t) in rw e (take-all n l (omega (arith, nleb→lt n (length l) t)) ∙ sym (take-length l)))
+
+-- a pool's words past the buffer's end count as the buffer's end
+pub take-within : (n m : ℕ) (l : List ℕ) → length l ≡ 16384 → m ≡ min n 16384 → take m l ≡ take n l
+take-within n m l h e = ap (λ i. take i l) (e ∙ ap (min n) (sym h)) ∙ sym (take-least n l)

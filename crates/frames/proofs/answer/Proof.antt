@@ -1,0 +1,23 @@
+-- `frames::answer` meets its contract. Assumes nothing.
+use Rattle.frames.proofs.Replies.{take-within}
+use borrow.Author.Needs.{needs}
+use native.Mathlib.Omega.{arith}
+use Rattle.frames.proofs.answer.Statement.{statement}
+use Rattle.frames.proofs.answer.Tie as tie
+use Rattle.frames.proofs.answer.Reads as reads
+use Rattle.frames.proofs.answer.Lts as lts
+use Rattle.frames.proofs.at_most.Reads as at-most-reads
+use Rattle.frames.proofs.line_answer.Reads as line-answer-reads
+
+at-most-requires : tie.Need-at-most-requires
+at-most-requires c κs = search needs
+
+line-answer-requires : tie.Need-line-answer-requires
+line-answer-requires c κs = search needs
+
+returns : tie.Need-returns
+returns c = let a = c .before .before .before .before .before .before .args in
+    rw (take-within (a .words) (c .before .before .before .before .at-most .result) (a .pool .now) (omega arith) (c .before .before .before .before .at-most .ensures)) at (c .line-answer .ensures)
+
+pub answer-spec : {M : Type 1} → statement M
+answer-spec = tie.close (tie.spec at-most-requires line-answer-requires returns)

@@ -1,0 +1,26 @@
+-- `frames::feed` meets its contract. Assumes nothing.
+use Rattle.frames.proofs.Replies.{take-within}
+use borrow.Author.Needs.{needs}
+use native.Mathlib.Omega.{arith}
+use Rattle.frames.proofs.feed.Statement.{statement}
+use Rattle.frames.proofs.feed.Tie as tie
+use Rattle.frames.proofs.feed.Reads as reads
+use Rattle.frames.proofs.feed.Lts as lts
+use Rattle.frames.proofs.at_most.Reads as at-most-reads
+use Rattle.frames.proofs.feed_all.Reads as feed-all-reads
+
+at-most-requires : tie.Need-at-most-requires
+at-most-requires c κs = search needs
+
+feed-all-requires : tie.Need-feed-all-requires
+feed-all-requires c κs = search needs
+
+same-length : tie.Need-same-length
+same-length c = search needs
+
+returns : tie.Need-returns
+returns c = let a = c .before .before .before .before .before .before .before .before .before .before .args in
+    rw (take-within (a .from .words) (c .before .before .before .before .before .before .before .at-most .result) (a .pool .now) (omega arith) (c .before .before .before .before .before .before .before .at-most .ensures)) at (c .before .before .feed-all .ensures)
+
+pub feed-spec : {M : Type 1} → statement M
+feed-spec = tie.close (tie.spec at-most-requires feed-all-requires same-length returns)

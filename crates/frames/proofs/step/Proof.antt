@@ -1,0 +1,52 @@
+-- `frames::step` meets its contract. Assumes nothing.
+use Rattle.frames.proofs.Bytes.{step-feed, step-other}
+use borrow.Author.Needs.{needs}
+use native.Mathlib.Omega.{arith}
+use Rattle.frames.proofs.step.Statement.{statement}
+use Rattle.frames.proofs.step.Tie as tie
+use Rattle.frames.proofs.step.Reads as reads
+use Rattle.frames.proofs.step.Lts as lts
+use Rattle.frames.proofs.close.Reads as close-reads
+use Rattle.frames.proofs.push.Reads as push-reads
+
+close-requires : tie.Need-close-requires
+close-requires c κs = search needs
+
+push-requires : tie.Need-push-requires
+push-requires c κs = search needs
+
+same-length : tie.Need-same-length
+same-length c = search needs
+
+same-length-2 : tie.Need-same-length-2
+same-length-2 c = search needs
+
+same-length-3 : tie.Need-same-length-3
+same-length-3 c = search needs
+
+same-length-4 : tie.Need-same-length-4
+same-length-4 c = search needs
+
+returns : tie.Need-returns
+returns c = step-feed (c .before .before .before .before .before .before .before .before .before .before .before .before .before .before .before .before .args .line .now) (c .before .before .before .before .before .before .before .before .before .before .before .if1 .taken) (c .before .before .before .before .before .before .close .ensures)
+
+same-length-5 : tie.Need-same-length-5
+same-length-5 c = search needs
+
+returns-2 : tie.Need-returns-2
+returns-2 c = let a = c .before .before .before .before .before .before .before .before .before .args in
+    step-other (a .b) (a .words) (a .digits) (c .before .before .push .result) (a .line .now) _ (a .pool .now) (a .out .now) (a .at) (c .before .before .before .before .if1 .left) (c .before .before .push .ensures) (omega arith)
+
+pub step-spec : {M : Type 1} → statement M
+step-spec =
+    tie.close
+    (tie.spec
+    close-requires
+    push-requires
+    same-length
+    same-length-2
+    same-length-3
+    same-length-4
+    returns
+    same-length-5
+    returns-2)

@@ -1,0 +1,4 @@
+pub mod Stream
+pub mod Text
+pub mod State
+pub mod Pending

@@ -1,0 +1,92 @@
+//! The six calls as both programs are asked for them.
+
+use second::calls;
+
+/// What a call answers: its number, and the returned values, 0 where there are none.
+/// Remove returns a location; find a location and the pages read; list the total and the pages read.
+#[derive(Clone, Copy, Debug, Default, PartialEq, Eq)]
+pub struct Answer {
+    pub number: u32,
+    pub values: [u32; 2],
+}
+
+/// An index over lent buffers of any lengths and any contents.
+pub trait Index: Sync {
+    fn format(&self, pool: &mut [u32], k: u32) -> Answer;
+    fn check(&self, pool: &[u32]) -> Answer;
+    fn place(&self, pool: &mut [u32], work: &mut [u32], point: &[u32], location: u32) -> Answer;
+    fn remove(&self, pool: &mut [u32], point: &[u32]) -> Answer;
+    fn find(&self, pool: &[u32], point: &[u32]) -> Answer;
+    fn list(&self, pool: &[u32], window: &[u32], answer: &mut [u32]) -> Answer;
+}
+
+/// The second program.
+pub struct Second;
+
+/// The plain form of an outcome, a refusal given by its number.
+fn answer<T>(outcome: Result<T, u32>, values: impl FnOnce(T) -> [u32; 2]) -> Answer {
+    match outcome {
+        Ok(returned) => Answer {
+            number: 0,
+            values: values(returned),
+        },
+        Err(number) => Answer {
+            number,
+            values: [0, 0],
+        },
+    }
+}
+
+/// The six calls by way of a crate whose refusals have a `number`.
+macro_rules! index {
+    ($name:ident, $calls:ident) => {
+        impl Index for $name {
+            fn format(&self, pool: &mut [u32], k: u32) -> Answer {
+                let outcome = $calls::format(pool, k).map_err(|refusal| refusal.number());
+                answer(outcome, |()| [0, 0])
+            }
+
+            fn check(&self, pool: &[u32]) -> Answer {
+                let outcome = $calls::check(pool).map_err(|refusal| refusal.number());
+                answer(outcome, |()| [0, 0])
+            }
+
+            fn place(
+                &self,
+                pool: &mut [u32],
+                work: &mut [u32],
+                point: &[u32],
+                location: u32,
+            ) -> Answer {
+                let outcome = $calls::place(pool, work, point, location);
+                answer(outcome.map_err(|refusal| refusal.number()), |()| [0, 0])
+            }
+
+            fn remove(&self, pool: &mut [u32], point: &[u32]) -> Answer {
+                let outcome = $calls::remove(pool, point).map_err(|refusal| refusal.number());
+                answer(outcome, |location| [location, 0])
+            }
+
+            fn find(&self, pool: &[u32], point: &[u32]) -> Answer {
+                let outcome = $calls::find(pool, point).map_err(|refusal| refusal.number());
+                answer(outcome, |found| [found.location, found.reads])
+            }
+
+            fn list(&self, pool: &[u32], window: &[u32], slots: &mut [u32]) -> Answer {
+                let outcome = $calls::list(pool, window, slots);
+                answer(outcome.map_err(|refusal| refusal.number()), |listed| {
+                    [listed.total, listed.reads]
+                })
+            }
+        }
+    };
+}
+
+index!(Second, calls);
+
+/// The proved library, by way of its safe binding.
+#[cfg(feature = "proved")]
+pub struct Proved;
+
+#[cfg(feature = "proved")]
+index!(Proved, korytanka);

@@ -1,0 +1,28 @@
+//! The comparison of a signal index with the second program. `main.rs` says how it is used.
+//!
+//! - `index`: the six calls as both programs are asked for them.
+//! - `step`: the steps of a sequence and their text.
+//! - `pair`: two programs side by side, every word compared.
+//! - `run`: a sequence as it is taken, written down and counted.
+//! - `random`, `pools`: keys and pools to start from.
+//! - `sequences`, `spoilt`, `frames`: the three parts of the comparison.
+//! - `jobs`: the jobs of a round and the threads that do them.
+//! - `counts`: what was met and what has to be.
+//! - `cut`: a failing sequence cut down.
+//! - `supervise`: the process that works dies, and still a sequence is cut down.
+//! - `faults`: indexes broken on purpose, to see that the comparison sees it.
+
+pub mod counts;
+pub mod cut;
+pub mod faults;
+pub mod frames;
+pub mod index;
+pub mod jobs;
+pub mod pair;
+pub mod pools;
+pub mod random;
+pub mod run;
+pub mod sequences;
+pub mod spoilt;
+pub mod step;
+pub mod supervise;
