@@ -121,7 +121,7 @@ module _ (n : ℕ) (p : Key) (l : ℕ) (w : List ℕ) where
 
   module _ (h : length w ≡ 32 * n) where
     pages : pagesIn L w ≡ n
-    size = omega arith
+    pages = omega arith
 
     place-steps : restored w (stepsIn n p l w) ≡ placeIn L p l w
     unfolding stepsIn placeIn

@@ -22,6 +22,14 @@ pub fn get(pool: &[u32], at: usize) -> usize
     }
 }
 
+// The word at `at`, which is one of the pool's.
+pub fn read(pool: &[u32], at: usize) -> usize
+    requires { ⌜ at < length (now pool) ⌝ }
+    ensures { λ r. ⌜ (r ≡ getD (now (pool .entry)) at 0) × (r < 2 ^ 32) ⌝ }
+{
+    pool[at] as usize
+}
+
 // Sets the word at `at`, if there is one.
 pub fn put(x: &mut [u32], at: usize, v: usize)
     requires { ⌜ v < 2 ^ 32 ⌝ }
