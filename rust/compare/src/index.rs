@@ -85,8 +85,6 @@ macro_rules! index {
 index!(Second, calls);
 
 /// The proved library, by way of its safe binding.
-#[cfg(feature = "proved")]
 pub struct Proved;
 
-#[cfg(feature = "proved")]
 index!(Proved, korytanka);

@@ -29,7 +29,7 @@
 
 use compare::faults::{broken, broken_frames, FAULTS, FRAME_FAULTS};
 use compare::frames::{self, Program};
-use compare::index::{Index, Second};
+use compare::index::{Index, Proved, Second};
 use compare::jobs::{cut_down, do_round, round, shorter, work, Compared, Found};
 use compare::random::Random;
 use compare::run;
@@ -109,20 +109,8 @@ fn other(options: &Options) -> Result<Box<dyn Index>, String> {
             None => Err(format!("no such fault: {name}")),
         },
         None if options.itself => Ok(Box::new(Second)),
-        None => proved(),
+        None => Ok(Box::new(Proved)),
     }
-}
-
-#[cfg(feature = "proved")]
-fn proved() -> Result<Box<dyn Index>, String> {
-    Ok(Box::new(compare::index::Proved))
-}
-
-#[cfg(not(feature = "proved"))]
-fn proved() -> Result<Box<dyn Index>, String> {
-    Err(String::from(
-        "built without the proved library; --itself compares the second program with itself",
-    ))
 }
 
 /// The frame program that is compared with the second one.
