@@ -22,7 +22,8 @@ use Rattle.kdb.specs.Calls.{L}
 use Rattle.kdb.proofs.Lists.{and-l, and-r, and-i, bool, bool-eq, is-true, of-true, and-assoc, and-true}
 use Rattle.kdb.proofs.Tiling.{tiles-iff}
 use Rattle.kdb.proofs.Pages.{page-full, points-fit, regions-fit}
-use Rattle.kdb.proofs.Words.{keysBy, keys-by, recs-take, ents-take, length-recs, length-ents, page-word, page-rest, kind, count, shape, seen}
+use Rattle.kdb.proofs.Pages.{recs-take, ents-take, length-recs, length-ents, word-at}
+use Rattle.kdb.proofs.Words.{keysBy, keys-by, page-rest, kind, count, shape, seen}
 use Rattle.words.specs.Words.{wordAt, Paged, pointKey, allZero}
 use Rattle.words.proofs.Laws.{pages}
 use Rattle.words.proofs.Loops.{every-by}
@@ -102,7 +103,7 @@ module _ (w : List ℕ) (n j : ℕ) (g : Paged w n) (i : Numbered n j) where
   k = domains w
 
   word : (x : ℕ) → x < 4 → getD ws x 0 ≡ wordAt w j x
-  word x h = page-word L w j x (omega arith)
+  word x h = word-at L w j x (omega arith)
 
   points-view : wordAt w j 0 ≡ 2 → view L w j ≡ points (getD ws 2 0) (readRecs k (wordAt w j 1) (drop 4 ws))
   points-view e = seen L w j (omega arith) is-page ∙ rw e

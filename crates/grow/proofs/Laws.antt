@@ -1,23 +1,23 @@
 -- Laws of each return of the growing functions, over the machine forms; and the cut of a page's records or entries by its keys.
-use mathlib.Core.Bool.{Bool, true, false, cond}
+use mathlib.Core.Bool.{Bool, true, false, not, cond}
 use mathlib.Core.List.{List, [], _∷_, _++_, map}
 use mathlib.Core.Option.{Option, none, some}
-use mathlib.Core.Path.{_≡_, refl, sym, ap, ap₂, _∙_, subst}
-use Prim.Native.Nat.{ℕ, zero, suc, _+_, _-_, _*_, _%_, _<_, _≤_, _^_, min}
+use mathlib.Core.Path.{_≡_, refl, sym, ap, ap₂, _∙_}
+use Prim.Native.Nat.{ℕ, zero, suc, _+_, _-_, _*_, _%_, _<_, _≤_}
 use native.Mathlib.Omega.{arith}
 use native.Mathlib.Nat.{suc-mul, zero-mul, mul-le-mul, mul-le-mul-left, add-zero}
 use native.Mathlib.Numerals.{add-one}
-use lib.Dec.{T, leb, ltb, eqb, ltb→lt, nltb→le}
-use lib.ListN.{length, take, drop, getD, set, replicate, length-take, length-drop, length-append, length-set, List·getD-eq-default}
+use lib.Dec.{ltb, eqb, ltb→lt, nltb→le}
+use lib.ListN.{length, take, drop, getD, set, replicate, length-take, length-drop, length-append, List·getD-eq-default}
 use lib.Seq.{sets, length-sets, getD-take, getD-drop, drop-drop, sets-eq, take-at, take-all}
 use borrow.Author.Tests.{lt-ltb, le-ltb, eq-eqb, ne-eqb}
 use Rattle.kdb.specs.Lists.{pad}
 use Rattle.kdb.specs.Box.{Key, sides, within, keyAt, lowerAt}
 use Rattle.kdb.specs.Calls.{L}
-use Rattle.kdb.specs.Cut.{cutOf, Cut, nowhere, cut, choose, cutPoints, cutRegions}
+use Rattle.kdb.specs.Cut.{cutOf, Cut, cut, choose, cutPoints, cutRegions}
 use Rattle.kdb.specs.Pages.{regionsPer, pointsPer, readRecs, readEnts, page}
 use Rattle.kdb.specs.Steps.{afterChosen}
-use Rattle.kdb.proofs.Lists.{bool, is-false, pad-sets, length-pad}
+use Rattle.kdb.proofs.Lists.{bool, is-false, pad-sets, length-pad, take-sets-in, take-pad}
 use Rattle.kdb.proofs.Box.{within-length}
 use Rattle.kdb.proofs.Pages.{points-fit, regions-fit}
 use Rattle.kdb.proofs.Words.{keysBy}
@@ -27,8 +27,8 @@ use Rattle.cut.specs.declared.Chosen.{Chosen}
 use Rattle.split.specs.Part.{claimed, halfIn}
 use Rattle.steps.specs.Machine.{Claimed, word, appendIn, overfull}
 use Rattle.steps.specs.Split.{partPoints, partRegions, splitIn}
-use Rattle.steps.specs.Grow.{How, short, fine, broke, Grown, brokeAt, boxAt, seekIn, breakPoints, breakRegions, widenIn, upIn, growIn}
-use Rattle.grow.specs.Grown.{howOf, grownAs, settlePoints, settleRegions}
+use Rattle.steps.specs.Grow.{short, fine, broke, Grown, brokeAt, boxAt, seekIn, breakPoints, breakRegions, widenIn, upIn, growIn}
+use Rattle.grow.specs.Grown.{grownAs, settlePoints, settleRegions}
 use Rattle.grow.specs.declared.Grown.{Grown as Answer}
 
 -- a region that runs past the end holds no point
@@ -57,22 +57,6 @@ module _ (k : ℕ) (p : Key) (m i : ℕ) (w : List ℕ) (a z : ℕ) where
   seek-next e h t = let q : m - i ≡ suc (m - (i + 1)) = omega arith in rw (q, t) at e
 
 -- the copy with one entry more
-take-set : (n : ℕ) (l : List ℕ) (i a : ℕ) → take n (set l i a) ≡ set (take n l) i a
-take-set zero l i a = refl
-take-set (suc n) [] i a = refl
-take-set (suc n) (b ∷ l) zero a = refl
-take-set (suc n) (b ∷ l) (suc i) a = ap (λ m. b ∷ m) (take-set n l i a)
-
-take-sets-in : (n : ℕ) (l : List ℕ) (i : ℕ) (u : List ℕ) → take n (sets l i u) ≡ sets (take n l) i u
-take-sets-in n l i [] = refl
-take-sets-in n l i (a ∷ u) = take-sets-in n (set l i a) (suc i) u ∙ ap (λ m. sets m (suc i) u) (take-set n l i a)
-
-take-pad : (m n : ℕ) (ws : List ℕ) → m ≤ n → take m (pad n ws) ≡ pad m ws
-take-pad zero n ws h = refl
-take-pad (suc m) zero ws h = absurd (omega arith)
-take-pad (suc m) (suc n) [] h = ap (λ l. 0 ∷ l) (take-pad m n [] (omega arith))
-take-pad (suc m) (suc n) (a ∷ ws) h = ap (λ l. a ∷ l) (take-pad m n ws (omega arith))
-
 pub over-words : (wd : ℕ) (w : List ℕ) (j : ℕ) (u : List ℕ) (n : ℕ) → n ≡ 32 + wd → wd ≤ 9
     → take n (sets (sets (replicate 48 0) 0 (page L w j)) (4 + word L w j 1 * wd) u) ≡ overfull L wd w j u
 unfolding overfull
@@ -142,12 +126,12 @@ regions-choose k e m src h = choose-same k k e _ (keysIn k (2 * k + 1) m src) (�
 
 -- what a cut leads to
 abbrev pub at : Chosen → ℕ → Answer
-at c r = record { ok = false; page = r; domain = c .domain; key = c .key }
+at c r = record { ok = not (eqb r 0); page = r; domain = c .domain; key = c .key }
 
 broken : (d x : ℕ) (o : Claimed) (c : Chosen) (r : ℕ) (v : List ℕ) → c .domain ≡ d → c .key ≡ x → claimed r v ≡ o → grownAs (at c r) v ≡ brokeAt d x o
 broken d x o c r v p q h = rw (← p, ← q, ← h) (go (eqb r 0))
   where
-    go : (t : Bool) → _≡_ {A = Grown} (record { how = cond t short (broke (c .domain) (c .key) r); words = v })
+    go : (t : Bool) → _≡_ {A = Grown} (record { how = cond t (cond (not t) fine short) (broke (c .domain) (c .key) r); words = v })
         (cond t (record { how = short; words = v }) (record { how = broke (c .domain) (c .key) r; words = v }))
     go true = refl
     go false = refl

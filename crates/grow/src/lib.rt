@@ -27,7 +27,7 @@ ghost use Rattle.steps.specs.Machine.{word};
 ghost use Rattle.steps.specs.Grow.{boxAt, seekIn, breakPoints, breakRegions, widenIn, growIn};
 ghost use Rattle.grow.specs.Grown.{grownAs, Sane, Placing, settlePoints, settleRegions};
 
-// How a page took the point: broken along a key of a domain, with the right page; or, where page is 0, with room or not at all.
+// How a page took the point, if it did: with room, where page is 0, or broken along a key of a domain, page the right one.
 pub struct Grown {
     pub ok: bool,
     pub page: usize,
@@ -99,7 +99,7 @@ fn break_points(
     }
     let r = part_points(pool, n, k, c.domain, c.key, src, m, (c.domain + 1) % k, j);
     Grown {
-        ok: false,
+        ok: r != 0,
         page: r,
         domain: c.domain,
         key: c.key,
@@ -143,7 +143,7 @@ fn break_regions(
         j,
     );
     Grown {
-        ok: false,
+        ok: r != 0,
         page: r,
         domain: c.domain,
         key: c.key,

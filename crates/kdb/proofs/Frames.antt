@@ -1,9 +1,9 @@
 -- Laws of the frame definition that code rests on: what place's work buffer and format's old words leave open, lines that are no frame,
 -- and the lines of an input.
-use mathlib.Core.Bool.{Bool, true, false, _&&_, not, cond}
+use mathlib.Core.Bool.{Bool, true, false, not}
 use mathlib.Core.List.{List, [], _∷_, _++_}
-use mathlib.Core.Path.{_≡_, refl, sym, ap, _∙_}
-use Prim.Native.Nat.{ℕ, suc, _<_}
+use mathlib.Core.Path.{_≡_, refl, ap, _∙_}
+use Prim.Native.Nat.{ℕ, _<_}
 use native.Mathlib.Omega.{arith}
 use lib.Dec.{T, eqb}
 use lib.ListN.{length}
@@ -11,7 +11,7 @@ use borrow.Author.Tests.{lt-leb}
 use Rattle.kdb.specs.Lists.{every}
 use Rattle.kdb.specs.Pool.{goodLength}
 use Rattle.kdb.specs.Calls.{L, format, place, Buffers, lent, Outcome, gives, refuses, Test, unless, judge, tests, goodDomains, formatted, placing, stepped, outcome}
-use Rattle.kdb.specs.Frames.{Reply, refusal, renewed, answered, lines, reply}
+use Rattle.kdb.specs.Frames.{Reply, refusal, renewed, lines, reply}
 use Rattle.kdb.proofs.Lists.{and-l, and-r, is-false}
 
 -- the outcome without the work buffer

@@ -5,9 +5,9 @@ use mathlib.Core.Path.{_≡_, refl, sym, ap, ap₂, _∙_, subst}
 use Prim.Native.Nat.{ℕ, zero, suc, _+_, _-_, _*_, _<_, _≤_}
 use native.Mathlib.Omega.{arith}
 use lib.Dec.{T, leb, eqb, leb→le, nleb→lt, eqb→eq, eqb-refl, T-not}
-use native.Mathlib.Nat.{zero-mul, suc-mul, zero-add, suc-add, add-zero, add-mul}
+use native.Mathlib.Nat.{zero-mul, suc-mul, zero-add, suc-add, add-zero, add-mul, sub-zero}
 use lib.ListN.{length, take, drop, getD, length-append, take-append-drop, set, replicate, drop-of-length-le}
-use lib.Seq.{take-append-add, take-take, sets, sets-eq, set-out, take-all, length-take-le}
+use lib.Seq.{take-append-add, take-take, take-at, take-nil, sets, sets-eq, set-out, take-all, length-take-le}
 use borrow.Author.Tests.{eq-eqb, ne-eqb, leb-true, leb-false}
 use Rattle.kdb.specs.Lists.{bit, only, tally, every, anyOf, Each, gather, sum, many, upFrom, pad, same}
 
@@ -113,10 +113,6 @@ module _ {ℓ} {A : Type ℓ} where
   pub every-append : (f : A → Bool) (l m : List A) → T (every f l) → T (every f m) → T (every f (l ++ m))
   every-append f [] m t u = u
   every-append f (a ∷ l) m t u = and-i (f a) _ (and-l (f a) _ t) (every-append f l m (and-r (f a) _ t) u)
-
-  pub gate : (m : Bool) (x y : List A) → (T m → x ≡ y) → (T (not m) → x ≡ []) → x ≡ cond m y []
-  gate true x y f g = f tt
-  gate false x y f g = g tt
 
 pub many-append : (c : ℕ) (l m : List ℕ) → many c (l ++ m) ≡ many c l + many c m
 many-append c l m = tally-append (eqb c) l m
@@ -720,3 +716,30 @@ module _ {ℓ} {A : Type ℓ} (P : A → Type 0) where
   each-take zero l h = tt
   each-take (suc n) [] h = tt
   each-take (suc n) (a ∷ l) h = (h .0, each-take n l (h .1))
+
+-- the first n, without the first m of them
+pub drop-take {ℓ} : {A : Type ℓ} (m n : ℕ) (l : List A) → drop m (take n l) ≡ take (n - m) (drop m l)
+drop-take zero n l = rw (sub-zero n)
+drop-take (suc m) zero l = let z : 0 - suc m ≡ 0 = omega arith in rw z
+drop-take (suc m) (suc n) [] = sym (take-nil (suc n - suc m))
+drop-take (suc m) (suc n) (a ∷ l) = let z : suc n - suc m ≡ n - m = omega arith in rw z (drop-take m n l)
+
+-- the first n after words are put in
+pub take-set : (n : ℕ) (l : List ℕ) (i a : ℕ) → take n (set l i a) ≡ set (take n l) i a
+take-set zero l i a = refl
+take-set (suc n) [] i a = refl
+take-set (suc n) (b ∷ l) zero a = refl
+take-set (suc n) (b ∷ l) (suc i) a = ap (λ m. b ∷ m) (take-set n l i a)
+
+pub take-sets-in : (n : ℕ) (l : List ℕ) (i : ℕ) (u : List ℕ) → take n (sets l i u) ≡ sets (take n l) i u
+take-sets-in n l i [] = refl
+take-sets-in n l i (a ∷ u) = take-sets-in n (set l i a) (suc i) u ∙ ap (λ m. sets m (suc i) u) (take-set n l i a)
+
+pub take-sets : (l u : List ℕ) → length u ≤ length l → take (length u) (sets l 0 u) ≡ u
+take-sets l u h = ap (take (length u)) (sets-eq u l 0 (omega arith)) ∙ take-at u (drop (0 + length u) l) (length u) refl
+
+pub take-pad : (m n : ℕ) (ws : List ℕ) → m ≤ n → take m (pad n ws) ≡ pad m ws
+take-pad zero n ws h = refl
+take-pad (suc m) zero ws h = absurd (omega arith)
+take-pad (suc m) (suc n) [] h = ap (λ l. 0 ∷ l) (take-pad m n [] (omega arith))
+take-pad (suc m) (suc n) (a ∷ ws) h = ap (λ l. a ∷ l) (take-pad m n ws (omega arith))

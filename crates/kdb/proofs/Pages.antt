@@ -12,22 +12,12 @@ use Rattle.kdb.specs.Lists.{Each, gather, pad, upFrom}
 use Rattle.kdb.specs.Box.{Box, sides}
 use Rattle.kdb.specs.Tree.{Rec}
 use Rattle.kdb.specs.Pages.{Ent, Page, blank, points, regions, pointsPer, regionsPer, recsIn, entsIn, wordsR, wordsE, printPage, readRecs, readEnts, readPage, page}
-use Rattle.kdb.proofs.Lists.{bool, each-map, length-gather, length-pad, pad-tail}
+use Rattle.kdb.proofs.Lists.{bool, each-map, drop-take, length-gather, length-pad, pad-tail}
 
 -- n entries of d words each, one read by f from its first word on
 abbrev reads {ℓ} : {A : Type ℓ} → ℕ → (List ℕ → A) → ℕ → List ℕ → List A
 reads d f zero ws = []
 reads d f (suc n) ws = f ws ∷ reads d f n (drop d ws)
-
-drop-take : (m n : ℕ) (l : List ℕ) → drop m (take n l) ≡ take (n - m) (drop m l)
-drop-take zero n l = let e : n ≡ n - 0 = omega arith in ap (λ i. take i l) e
-drop-take (suc m) zero l = let e : 0 ≡ 0 - suc m = omega arith in ap (λ i. take i (drop (suc m) l)) e
-drop-take (suc m) (suc n) [] = sym (nil (suc n - suc m))
-  where
-    nil : (i : ℕ) → _≡_ {A = List ℕ} (take i []) []
-    nil zero = refl
-    nil (suc i) = refl
-drop-take (suc m) (suc n) (a ∷ l) = let e : n - m ≡ suc n - suc m = omega arith in drop-take m n l ∙ ap (λ i. take i (drop m l)) e
 
 module _ {ℓ} {A : Type ℓ} (d : ℕ) (f : List ℕ → A) where
   reads-length : (n : ℕ) (ws : List ℕ) → length (reads d f n ws) ≡ n
@@ -114,14 +104,14 @@ module _ (k n : ℕ) where
   pub length-ents : (ws : List ℕ) → length (readEnts k n ws) ≡ n
   length-ents ws = ap length (ents-reads k n ws) ∙ reads-length (2 * k + 1) (entOf k) n ws
 
-  recs-take : (m : ℕ) (ws : List ℕ) → n * (k + 1) ≤ m → readRecs k n (take m ws) ≡ readRecs k n ws
+  pub recs-take : (m : ℕ) (ws : List ℕ) → n * (k + 1) ≤ m → readRecs k n (take m ws) ≡ readRecs k n ws
   recs-take m ws h =
       recs-reads k n (take m ws) ∙ (reads-take (k + 1) (recOf k) same n m ws h ∙ sym (recs-reads k n ws))
     where
       same : (ws : List ℕ) (m : ℕ) → k + 1 ≤ m → recOf k (take m ws) ≡ recOf k ws
       same ws m l = ap₂ (λ (a : List ℕ) (b : ℕ). record { key = a; loc = b }) (take-take k m ws (omega arith)) (getD-take m ws k 0 (omega arith))
 
-  ents-take : (m : ℕ) (ws : List ℕ) → n * (2 * k + 1) ≤ m → readEnts k n (take m ws) ≡ readEnts k n ws
+  pub ents-take : (m : ℕ) (ws : List ℕ) → n * (2 * k + 1) ≤ m → readEnts k n (take m ws) ≡ readEnts k n ws
   ents-take m ws h =
       ents-reads k n (take m ws) ∙ (reads-take (2 * k + 1) (entOf k) same n m ws h ∙ sym (ents-reads k n ws))
     where
@@ -257,15 +247,6 @@ module _ (L : ℕ) where
       ap (λ m. page L (sets (set w (L * c + i) y) m ys) j) e
       ∙ (page-sets-other (set w (L * c + i) y) c (suc i) ys j (omega arith) n ∙ page-set-other w c i y j (omega arith) n)
 
-  -- a word of a page, and a page's entries, as words of the pool
+  -- a word of a page as a word of the pool
   pub word-at : (w : List ℕ) (c i : ℕ) → i < L → getD (page L w c) i 0 ≡ getD w (L * c + i) 0
   word-at w c i h = getD-take L (drop (L * c) w) i 0 h ∙ getD-drop (L * c) w i 0
-
-  from-page : (w : List ℕ) (c : ℕ) → drop 4 (page L w c) ≡ take (L - 4) (drop (L * c + 4) w)
-  from-page w c = drop-take 4 L (drop (L * c) w) ∙ ap (take (L - 4)) (drop-drop 4 (L * c) w)
-
-  pub recs-at : (k n : ℕ) (w : List ℕ) (j : ℕ) → 4 + n * (k + 1) ≤ L → readRecs k n (drop 4 (page L w j)) ≡ readRecs k n (drop (L * j + 4) w)
-  recs-at k n w j h = ap (readRecs k n) (from-page w j) ∙ recs-take k n (L - 4) (drop (L * j + 4) w) (omega arith)
-
-  pub ents-at : (k n : ℕ) (w : List ℕ) (j : ℕ) → 4 + n * (2 * k + 1) ≤ L → readEnts k n (drop 4 (page L w j)) ≡ readEnts k n (drop (L * j + 4) w)
-  ents-at k n w j h = ap (readEnts k n) (from-page w j) ∙ ents-take k n (L - 4) (drop (L * j + 4) w) (omega arith)

@@ -230,14 +230,6 @@ module _ (L : ℕ) (w : List ℕ) where
       (λ _. into-ends (λ x. Named L w x × (x .rec .key ≡ p)) (seek L w p n) p (seek-named p n) (entsIn (view L w j))) (λ _. tt) tt
 
   -- what a walk finds stands where it says, on any words
-  pub list-named : (v : Box) → Each (Named L w) (listWalk L w v .found)
-  list-named v =
-      let N = pagesIn L w in
-      let t = tour L w v (levelsAt w - 1) (rootAt w) in
-      cases (λ b. Each (Named L w) (cond b still (bounded L w N t) .found)) (eqb (levelsAt w) 0) (λ _. tt)
-      (λ _. cases (λ b. Each (Named L w) (cond b t (record { read = take (N - 1) (t .read); bad = true; found = [] }) .found)) (ltb (length (t .read)) N)
-      (λ _. tour-named v (levelsAt w - 1) (rootAt w)) (λ _. tt))
-
   pub find-named : (p : Key) → Ends (λ x. Named L w x × (x .rec .key ≡ p)) (findWalk L w p .end)
   find-named p =
       cases (λ b. Ends (λ x. Named L w x × (x .rec .key ≡ p)) (cond b (ends [] rootless) (seek L w p (levelsAt w - 1) (rootAt w)) .end)) (eqb (levelsAt w) 0)

@@ -74,10 +74,6 @@ point-path L w p s h e f =
 -- the answer buffer keeps its length; with slots enough it begins with the locations and the later slots are unchanged; with too few it
 -- takes the first locations
 module _ {A : Type 0} (loc : A → ℕ) (answer : List ℕ) (xs : List A) where
-  pub fill-length : length (take (length answer) (map loc xs) ++ drop (length xs) answer) ≡ length answer
-  fill-length =
-      omega (arith, length-append (take (length answer) (map loc xs)) (drop (length xs) answer), length-take (length answer) (map loc xs), length-drop (length xs) answer, length-map xs loc)
-
   pub fill-enough : length xs ≤ length answer → take (length answer) (map loc xs) ++ drop (length xs) answer ≡ map loc xs ++ drop (length xs) answer
   fill-enough h = ap (λ l. l ++ drop (length xs) answer) (take-all (length answer) (map loc xs) (omega (arith, length-map xs loc)))
 

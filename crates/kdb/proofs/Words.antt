@@ -5,17 +5,18 @@ use mathlib.Core.List.{List, [], _∷_}
 use mathlib.Core.Path.{_≡_, refl, sym, ap, ap₂, _∙_}
 use Prim.Native.Nat.{ℕ, zero, suc, _+_, _-_, _*_, _/_, _<_, _≤_}
 use native.Mathlib.Omega.{arith}
-use native.Mathlib.Nat.{suc-mul, div-mul-le-self, sub-zero, mul-le-mul-right, le-trans}
+use native.Mathlib.Nat.{div-mul-le-self, mul-le-mul-right, le-trans}
 use lib.Dec.{leb, eqb}
 use lib.ListN.{length, take, drop, getD}
-use lib.Seq.{drop-cons, take-take, getD-take, getD-drop, drop-drop, take-nil}
+use lib.Seq.{drop-cons, getD-drop, drop-drop}
 use borrow.Author.Tests.{eqb-true, ne-eqb, leb-true}
 use Rattle.kdb.specs.Box.{Key, sides}
 use Rattle.kdb.specs.Tree.{Rec}
 use Rattle.kdb.specs.Pages.{Ent, Page, blank, points, regions, regionsPer, pointsPer, recsIn, entsIn, isPoints, isRegions, readRecs, readEnts, page}
 use Rattle.kdb.specs.Pool.{domains, view, isPage}
 use Rattle.kdb.specs.Walk.{goodPoints, goodRegions}
-use Rattle.kdb.proofs.Lists.{and-t}
+use Rattle.kdb.proofs.Lists.{and-t, drop-take}
+use Rattle.kdb.proofs.Pages.{recs-take, ents-take, length-recs, length-ents, word-at}
 
 -- m values of f from i on
 abbrev pub keysBy : ℕ → (ℕ → ℕ) → ℕ → Key
@@ -28,38 +29,6 @@ keys-by zero a i w f e h = refl
 keys-by (suc m) a i w f e h =
     let q : suc (a + i) ≡ a + (i + 1) = omega arith in
     rw (drop-cons w (a + i) 0 (omega arith)) (ap₂ _∷_ (e i) (keys-by m a (i + 1) w f e (omega arith) ∙ ap (λ (n : ℕ). take m (drop n w)) (sym q)))
-
-pub drop-take {ℓ} : {A : Type ℓ} (m n : ℕ) (l : List A) → drop m (take n l) ≡ take (n - m) (drop m l)
-drop-take zero n l = rw (sub-zero n)
-drop-take (suc m) zero l = let z : 0 - suc m ≡ 0 = omega arith in rw z
-drop-take (suc m) (suc n) [] = sym (take-nil (suc n - suc m))
-drop-take (suc m) (suc n) (a ∷ l) = let z : suc n - suc m ≡ n - m = omega arith in rw z (drop-take m n l)
-
--- the first m words hold n entries, so the others do not matter
-pub recs-take : (k n m : ℕ) (ws : List ℕ) → n * (k + 1) ≤ m → readRecs k n (take m ws) ≡ readRecs k n ws
-recs-take k zero m ws h = refl
-recs-take k (suc n) m ws h =
-    let q : k + 1 + n * (k + 1) ≤ m = omega (arith, suc-mul n (k + 1)) in
-    ap₂ _∷_ (ap₂ (λ a b. record { key = a; loc = b }) (take-take k m ws (omega arith)) (getD-take m ws k 0 (omega arith)))
-    (ap (readRecs k n) (drop-take (k + 1) m ws) ∙ recs-take k n (m - (k + 1)) (drop (k + 1) ws) (omega arith))
-
-pub ents-take : (k n m : ℕ) (ws : List ℕ) → n * (2 * k + 1) ≤ m → readEnts k n (take m ws) ≡ readEnts k n ws
-ents-take k zero m ws h = refl
-ents-take k (suc n) m ws h =
-    let q : 2 * k + 1 + n * (2 * k + 1) ≤ m = omega (arith, suc-mul n (2 * k + 1)) in
-    ap₂ _∷_
-    (ap₂ (λ a b. record { box = a; child = b })
-    (ap₂ sides (take-take k m ws (omega arith)) (ap (take k) (drop-take k m ws) ∙ take-take k (m - k) (drop k ws) (omega arith)))
-    (getD-take m ws (2 * k) 0 (omega arith)))
-    (ap (readEnts k n) (drop-take (2 * k + 1) m ws) ∙ ents-take k n (m - (2 * k + 1)) (drop (2 * k + 1) ws) (omega arith))
-
-pub length-recs : (k n : ℕ) (ws : List ℕ) → length (readRecs k n ws) ≡ n
-length-recs k zero ws = refl
-length-recs k (suc n) ws = ap suc (length-recs k n (drop (k + 1) ws))
-
-pub length-ents : (k n : ℕ) (ws : List ℕ) → length (readEnts k n ws) ≡ n
-length-ents k zero ws = refl
-length-ents k (suc n) ws = ap suc (length-ents k n (drop (2 * k + 1) ws))
 
 -- the record and the entry at word a of a pool
 abbrev pub recAt : ℕ → List ℕ → ℕ → Rec
@@ -77,10 +46,7 @@ pub ent-turn : (k c e : ℕ) (w : List ℕ) (a : ℕ) → e < c
 ent-turn k c e w a h =
     let q : c - e ≡ suc (c - (e + 1)) = omega arith in rw (q, getD-drop a w (2 * k) 0, drop-drop (2 * k + 1) a w, drop-drop k a w)
 
--- the words of page j
-pub page-word : (L : ℕ) (w : List ℕ) (j i : ℕ) → i < L → getD (page L w j) i 0 ≡ getD w (L * j + i) 0
-page-word L w j i h = getD-take L (drop (L * j) w) i 0 h ∙ getD-drop (L * j) w i 0
-
+-- the words of page j from word m on
 pub page-rest : (L : ℕ) (w : List ℕ) (j m : ℕ) → drop m (page L w j) ≡ take (L - m) (drop (L * j + m) w)
 page-rest L w j m = drop-take m L (drop (L * j) w) ∙ ap (take (L - m)) (drop-drop m (L * j) w)
 
@@ -105,7 +71,7 @@ module _ (L : ℕ) (w : List ℕ) (j : ℕ) where
 
   module _ (room : 4 ≤ L) (h : isPage L w j ≡ true) where
     pub seen : view L w j ≡ shape (eqb kind 1) (eqb kind 2)
-    seen = rw (h, page-word L w j 0 (omega arith), page-word L w j 1 (omega arith))
+    seen = rw (h, word-at L w j 0 (omega arith), word-at L w j 1 (omega arith))
 
     pub good-points : goodPoints L w j ≡ eqb kind 2 && leb count (pointsPer L (domains w))
     good-points = rw seen (go (eqb kind 1) (eqb kind 2) (other kind))

@@ -1,13 +1,13 @@
 -- Laws of each return of placing and removing, over the machine forms.
 use mathlib.Core.Bool.{Bool, true, false, cond}
 use mathlib.Core.List.{List, [], _∷_, _++_}
-use mathlib.Core.Path.{_≡_, refl, sym, ap, ap₂, _∙_, subst}
-use Prim.Native.Nat.{ℕ, zero, suc, _+_, _-_, _*_, _/_, _<_, _≤_, _^_}
+use mathlib.Core.Path.{_≡_, refl, sym, ap, _∙_}
+use Prim.Native.Nat.{ℕ, zero, suc, _+_, _-_, _*_, _<_, _≤_}
 use native.Mathlib.Omega.{arith}
-use native.Mathlib.Nat.{mul-le-mul, mul-le-mul-left}
+use native.Mathlib.Nat.{mul-le-mul}
 use lib.Dec.{eqb}
 use lib.ListN.{length, take, drop, getD, set, replicate}
-use lib.Seq.{sets, take-all, set-comm, set-set}
+use lib.Seq.{sets, set-comm, set-set}
 use borrow.Author.Tests.{eq-eqb, ne-eqb}
 use Rattle.kdb.specs.Lists.{only, upFrom}
 use Rattle.kdb.specs.Box.{Key}
@@ -17,9 +17,9 @@ use Rattle.kdb.specs.Pool.{domains, rootAt, levelsAt, countAt, pagesIn}
 use Rattle.split.specs.Part.{claimed, passed, halfIn}
 use Rattle.grow.specs.Grown.{grownAs}
 use Rattle.grow.specs.declared.Grown.{Grown as Answer}
-use Rattle.steps.specs.Machine.{Passed, word, freshIn, appendIn}
+use Rattle.steps.specs.Machine.{word, freshIn, appendIn}
 use Rattle.steps.specs.Claim.{lowest, claimIn}
-use Rattle.steps.specs.Grow.{Grown, growIn}
+use Rattle.steps.specs.Grow.{growIn}
 use Rattle.steps.specs.Place.{headIn, space, rootIn, toppedIn, firstIn, restored, placeIn}
 use Rattle.steps.specs.Remove.{downIn, closeIn, removeIn}
 use Rattle.place.specs.Steps.{stepsIn}

@@ -1,20 +1,20 @@
 -- Laws of one turn, of the ends and of each return of the splitting functions, over the machine forms.
 use mathlib.Core.Bool.{Bool, true, false, _&&_, cond}
-use mathlib.Core.List.{List, [], _∷_, _++_}
-use mathlib.Core.Path.{_≡_, refl, sym, ap, ap₂, _∙_, subst}
-use Prim.Native.Nat.{ℕ, zero, suc, _+_, _-_, _*_, _<_, _≤_, min}
+use mathlib.Core.List.{List, [], _∷_}
+use mathlib.Core.Path.{_≡_, refl, sym, ap, ap₂, _∙_}
+use Prim.Native.Nat.{ℕ, suc, _+_, _-_, _*_, _<_, _≤_}
 use native.Mathlib.Omega.{arith}
 use native.Mathlib.Nat.{suc-mul, mul-le-mul, mul-le-mul-left, min-eq-left, min-eq-right}
 use native.Mathlib.Numerals.{add-one}
 use lib.Dec.{leb, ltb, eqb, ltb→lt, nltb→le, nleb→lt}
 use lib.ListN.{length, take, drop, getD, set, replicate, length-take, length-drop, length-set, drop-of-length-le, List·getD-eq-default}
-use lib.Seq.{sets, drop-cons, getD-take, getD-drop, sets-eq, take-at, take-all, set-getD, getD-set-other}
-use borrow.Author.Tests.{lt-ltb, le-ltb, le-leb, lt-leb, eq-eqb, ne-eqb, ltb-true, ltb-false}
+use lib.Seq.{sets, drop-cons, getD-take, getD-drop, take-all, set-getD, getD-set-other}
+use borrow.Author.Tests.{lt-ltb, le-leb, lt-leb, eq-eqb, ne-eqb, ltb-true, ltb-false}
 use Rattle.kdb.specs.Lists.{only, upFrom}
 use Rattle.kdb.specs.Calls.{L}
 use Rattle.kdb.specs.Pages.{page}
 use Rattle.words.specs.Words.{wordAt, firstOr, lowestFree}
-use Rattle.kdb.proofs.Lists.{bool, is-true, is-false, and-t, sets-all}
+use Rattle.kdb.proofs.Lists.{bool, is-true, is-false, and-t, sets-all, take-set, take-sets}
 use Rattle.kdb.proofs.Pages.{page-full}
 use Rattle.steps.specs.Machine.{Passed, Claimed, word, freshIn, appendIn}
 use Rattle.steps.specs.Claim.{lowest, claimIn}
@@ -146,15 +146,6 @@ module _ (n k d x : ℕ) (below : ℕ → List ℕ → Claimed) (m e j : ℕ) (s
     regions-short t = rw t at regions-some
 
 -- halves of an entry
-take-set : (n : ℕ) (l : List ℕ) (i a : ℕ) → take n (set l i a) ≡ set (take n l) i a
-take-set zero l i a = refl
-take-set (suc n) [] i a = refl
-take-set (suc n) (b ∷ l) zero a = refl
-take-set (suc n) (b ∷ l) (suc i) a = ap (λ m. b ∷ m) (take-set n l i a)
-
-take-sets : (l u : List ℕ) → length u ≤ length l → take (length u) (sets l 0 u) ≡ u
-take-sets l u h = ap (take (length u)) (sets-eq u l 0 (omega arith)) ∙ take-at u (drop (0 + length u) l) (length u) refl
-
 module _ (k : ℕ) (src : List ℕ) (a i x q : ℕ) (zs : List ℕ) (h : 2 * k + 1 ≤ length zs) where
   pub half-take : take (length (take (2 * k + 1) (drop a src))) (set (set (sets zs 0 (take (2 * k + 1) (drop a src))) i x) (2 * k) q) ≡ halfIn k src a i x q
   half-take =

@@ -3,7 +3,7 @@ use mathlib.Core.Bool.{true, cond}
 use mathlib.Core.List.{List, [], _∷_}
 use mathlib.Core.Option.{none, some, Option}
 use mathlib.Core.Path.{_≡_, refl, sym, _∙_, ap}
-use Prim.Native.Nat.{ℕ, _+_, _≤_}
+use Prim.Native.Nat.{ℕ, _≤_}
 use native.Mathlib.Omega.{arith}
 use lib.Dec.{T}
 use lib.ListN.{length}
@@ -19,7 +19,7 @@ use Rattle.kdb.proofs.Box.{within-length}
 use Rattle.kdb.proofs.Views.{whole-length}
 use Rattle.kdb.proofs.Stands.{Stands}
 use Rattle.kdb.proofs.Grow.{Placing, formed-fair, placed-formed, removed-formed}
-use Rattle.kdb.specs.Calls.{Call, place, remove, Outcome, gives, refuses, begins, core, placing, removing, stepped}
+use Rattle.kdb.specs.Calls.{place, remove, Outcome, gives, refuses, begins, core, placing, removing, stepped}
 use Rattle.kdb.proofs.Pool.{Sound-stands}
 use Rattle.kdb.proofs.Demands.{place-passed, place-placing, remove-passed}
 use Rattle.steps.specs.Machine.{Passed}

@@ -1,5 +1,6 @@
-use Prim.Native.Nat.{_≤_, _<_, _-_, _+_, _*_, _^_}
-use mathlib.Core.Path.{_≡_, refl, sym, ap, _∙_}
+-- `grow::grow` meets its contract: page j, `level` levels above the point pages, takes the point with its location.
+use Prim.Native.Nat.{_<_, _-_, _+_}
+use mathlib.Core.Path.{_∙_}
 use Rattle.kdb.specs.Pages.{regionsPer, pointsPer}
 use Rattle.grow.proofs.Laws as laws
 use borrow.Author.Needs.{needs}

@@ -1,6 +1,7 @@
+-- `grow::break_points` meets its contract: the m records of src are split between page j and a claimed page, along the cut that they offer
+-- from domain e on.
 use Prim.Native.Nat.{_+_}
 use native.Mathlib.Nat.{mod-lt}
-use mathlib.Core.Path.{_≡_, refl, sym, ap, _∙_}
 use Rattle.grow.proofs.Laws.{points-nowhere, points-broken}
 use borrow.Author.Needs.{needs}
 use native.Mathlib.Omega.{arith}

@@ -1,6 +1,6 @@
+-- `grow::break_regions` meets its contract: the m entries of src likewise; their children stand `level` levels above the point pages.
 use Prim.Native.Nat.{_+_}
 use native.Mathlib.Nat.{mod-lt}
-use mathlib.Core.Path.{_≡_, refl, sym, ap, _∙_}
 use Rattle.grow.proofs.Laws.{regions-nowhere, regions-broken}
 use borrow.Author.Needs.{needs}
 use native.Mathlib.Omega.{arith}

@@ -1,4 +1,5 @@
-use mathlib.Core.Path.{_≡_, refl, sym, ap, _∙_}
+-- `grow::copy_overfull` meets its contract: copies page j with an entry behind its last one.
+use mathlib.Core.Path.{ap, _∙_}
 use Prim.Native.Nat.{_+_, _*_}
 use lib.Seq.{sets, take-all}
 use Rattle.steps.specs.Machine.{word}

@@ -1,6 +1,7 @@
-use Prim.Native.Nat.{_+_, _*_}
+-- `grow::grow_points` meets its contract: point page j takes the point.
+use Prim.Native.Nat.{_+_}
 use lib.ListN.{take}
-use mathlib.Core.Path.{_≡_, refl, sym, ap, ap₂, _∙_}
+use mathlib.Core.Path.{sym, ap, _∙_}
 use lib.ListN.{length-take}
 use lib.Seq.{length-take-le}
 use Rattle.steps.specs.Machine.{word}

@@ -1,3 +1,4 @@
+-- `grow::holds` meets its contract: the region at word a holds the point; one that runs past the end holds none.
 use Rattle.grow.proofs.Laws.{holds-none}
 use borrow.Author.Needs.{needs}
 use native.Mathlib.Omega.{arith}

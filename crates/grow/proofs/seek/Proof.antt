@@ -1,6 +1,7 @@
+-- `grow::seek` meets its contract: the place of the first entry of page j whose region holds the point, or 0.
 use Prim.Native.Nat.{_≤_, _<_, _-_, _+_, _*_, _^_}
 use native.Mathlib.Nat.{sub-zero}
-use mathlib.Core.Path.{_≡_, refl, sym, ap, _∙_}
+use mathlib.Core.Path.{_≡_, sym, _∙_}
 use Rattle.steps.specs.Machine.{word}
 use Rattle.steps.specs.Grow.{seekIn}
 use Rattle.grow.proofs.Laws.{seek-end, seek-here, seek-next}

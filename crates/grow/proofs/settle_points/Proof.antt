@@ -1,13 +1,14 @@
-use Prim.Native.Nat.{_+_, _*_}
+-- `grow::settle_points` meets its contract: page j, with m records and of domain e, takes a record behind its last one, and is split if it
+-- was full.
+use Prim.Native.Nat.{_+_}
 use lib.ListN.{take}
 use Rattle.steps.specs.Grow.{breakPoints}
 use Rattle.kdb.specs.Pages.{regionsPer, pointsPer}
 use Rattle.kdb.specs.Cut.{choose}
 use Rattle.cut.specs.Keys.{keysIn}
 use Rattle.grow.proofs.Laws.{few-points}
-use mathlib.Core.Path.{_≡_, refl, sym, ap, _∙_}
+use mathlib.Core.Path.{sym, ap, _∙_}
 use lib.Seq.{length-take-le}
-use Rattle.words.proofs.Laws.{capacity-few}
 use Rattle.grow.proofs.Laws.{points-room, points-full, points-over, over-words}
 use borrow.Author.Needs.{needs}
 use native.Mathlib.Omega.{arith}

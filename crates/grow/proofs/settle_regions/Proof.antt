@@ -1,3 +1,4 @@
+-- `grow::settle_regions` meets its contract: page j, with m entries and of domain e, likewise.
 use Prim.Native.Nat.{_+_, _*_}
 use lib.ListN.{take}
 use Rattle.steps.specs.Grow.{breakRegions}
@@ -5,9 +6,8 @@ use Rattle.kdb.specs.Pages.{regionsPer, pointsPer}
 use Rattle.kdb.specs.Cut.{choose}
 use Rattle.cut.specs.Keys.{keysIn}
 use Rattle.grow.proofs.Laws.{few-regions}
-use mathlib.Core.Path.{_≡_, refl, sym, ap, _∙_}
+use mathlib.Core.Path.{sym, ap, _∙_}
 use lib.Seq.{length-take-le}
-use Rattle.words.proofs.Laws.{capacity-few}
 use Rattle.grow.proofs.Laws.{regions-room, regions-full, regions-over, over-words}
 use borrow.Author.Needs.{needs}
 use native.Mathlib.Omega.{arith}

@@ -1,9 +1,11 @@
+-- `grow::widen` meets its contract: region page j, whose child in the entry at word a broke along x in domain d with r as its right page,
+-- takes both halves.
 use Prim.Native.Nat.{_+_, _*_}
 use lib.Seq.{length-take-le}
-use lib.ListN.{length, take, drop, set, length-take, replicate}
+use lib.ListN.{take, drop, set, length-take, replicate}
 use Rattle.steps.specs.Machine.{word}
 use Rattle.grow.specs.Grown.{settleRegions}
-use mathlib.Core.Path.{_≡_, refl, sym, ap, ap₂, _∙_}
+use mathlib.Core.Path.{sym, ap, ap₂, _∙_}
 use Rattle.split.proofs.Laws.{half-take}
 use Rattle.grow.proofs.Laws.{widen-is}
 use borrow.Author.Needs.{needs}

@@ -1,4 +1,5 @@
-use mathlib.Core.Path.{_≡_, refl, sym, ap, _∙_}
+-- `grow::write_record` meets its contract: writes the point's keys, then the location.
+use mathlib.Core.Path.{ap, _∙_}
 use lib.ListN.{set}
 use lib.Seq.{sets, take-all}
 use borrow.Author.Needs.{needs}

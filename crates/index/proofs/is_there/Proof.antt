@@ -1,3 +1,4 @@
+-- `index::is_there` meets its contract: whether the search for the point ends at its record.
 use mathlib.Core.Path.{_≡_, refl, sym, ap, _∙_}
 use Rattle.kdb.specs.Calls.{L}
 use Rattle.kdb.specs.Walk.{findWalk}

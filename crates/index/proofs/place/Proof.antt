@@ -1,3 +1,4 @@
+-- `index::place` meets its contract: places a record.
 use mathlib.Core.List.{[]}
 use lib.ListN.{length}
 use Rattle.kdb.specs.Calls.{gives, refuses}

@@ -1,3 +1,4 @@
+-- `index::remove` meets its contract: removes the record with the point's keys, and answers its location.
 use mathlib.Core.List.{[], _∷_}
 use Rattle.kdb.specs.Calls.{gives}
 use Rattle.index.specs.Answers.{alone}

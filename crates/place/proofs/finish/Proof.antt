@@ -1,7 +1,7 @@
-use mathlib.Core.Path.{_≡_, refl, sym, ap, _∙_}
+-- `place::finish` meets its contract: what the root became.
+use mathlib.Core.Path.{_∙_}
 use Rattle.place.proofs.Laws.{topped-root, topped-fine, topped-short}
 use borrow.Author.Needs.{needs}
-use native.Mathlib.Omega.{arith}
 use Rattle.place.proofs.finish.Statement.{statement}
 use Rattle.place.proofs.finish.Tie as tie
 use Rattle.place.proofs.finish.Reads as reads

@@ -1,5 +1,6 @@
+-- `place::first_point` meets its contract: the first point claims a point page.
 use Prim.Native.Nat.{_+_}
-use mathlib.Core.Path.{_≡_, refl, sym, ap, _∙_}
+use mathlib.Core.Path.{sym, ap, _∙_}
 use mathlib.Core.List.{[], _∷_, _++_}
 use mathlib.Core.Bool.{true}
 use lib.Seq.{length-take-le, take-all}

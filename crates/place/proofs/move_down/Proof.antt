@@ -1,6 +1,7 @@
-use Prim.Native.Nat.{_≤_, _<_, _-_, _+_}
+-- `place::move_down` meets its contract: the n words behind the wd words at word a move down over them.
+use Prim.Native.Nat.{_≤_, _-_, _+_}
 use native.Mathlib.Nat.{sub-zero}
-use mathlib.Core.Path.{_≡_, refl, sym, ap, _∙_}
+use mathlib.Core.Path.{_≡_, refl, _∙_}
 use lib.ListN.{length}
 use Rattle.steps.specs.Remove.{downIn}
 use Rattle.place.proofs.Laws.{down-end, down-next}

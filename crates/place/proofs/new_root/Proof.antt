@@ -1,5 +1,6 @@
+-- `place::new_root` meets its contract: the root became pages l and r, cut along x in domain d: a new root lists both.
 use Prim.Native.Nat.{_+_, _*_}
-use mathlib.Core.Path.{_≡_, refl, sym, ap, ap₂, _∙_}
+use mathlib.Core.Path.{ap₂, _∙_}
 use mathlib.Core.Bool.{true}
 use Rattle.steps.specs.Place.{headIn}
 use Rattle.steps.specs.Machine.{appendIn}

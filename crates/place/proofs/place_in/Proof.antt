@@ -1,8 +1,9 @@
+-- `place::place_in` meets its contract: places a point: work becomes the copy of the pool before the steps alter the pool, and where a
+-- page is wanting the pool becomes the copy of work again.
 use Rattle.kdb.proofs.Lists.{sets-all}
-use mathlib.Core.Path.{_≡_, refl, sym, ap, _∙_}
+use mathlib.Core.Path.{sym, _∙_}
 use Rattle.place.proofs.Laws.{place-done, place-back}
 use borrow.Author.Needs.{needs}
-use native.Mathlib.Omega.{arith}
 use Rattle.place.proofs.place_in.Statement.{statement}
 use Rattle.place.proofs.place_in.Tie as tie
 use Rattle.place.proofs.place_in.Reads as reads

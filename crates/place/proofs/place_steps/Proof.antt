@@ -1,10 +1,6 @@
-use Prim.Native.Nat.{ℕ, _-_}
-use Rattle.place.specs.Steps.{Topping}
-use Rattle.steps.specs.Place.{firstIn, toppedIn}
-use Rattle.grow.specs.Grown.{Placing, grownAs, Sane}
-use Rattle.kdb.specs.Pages.{regionsPer, pointsPer}
-use mathlib.Core.Path.{subst}
-use mathlib.Core.Path.{_≡_, refl, sym, ap, _∙_}
+-- `place::place_steps` meets its contract: the steps of placing; where a page is wanting they are left half-way.
+use Prim.Native.Nat.{_-_}
+use mathlib.Core.Path.{sym, _∙_}
 use Rattle.place.proofs.Laws.{steps-first, steps-grown}
 use borrow.Author.Needs.{needs}
 use native.Mathlib.Omega.{arith}

@@ -1,5 +1,7 @@
+-- `place::remove_in` meets its contract: the record in a slot of page j goes: later records move down, the last one's words become zero,
+-- and page and header count one less.
 use Prim.Native.Nat.{_+_}
-use mathlib.Core.Path.{_≡_, refl, sym, ap, _∙_}
+use mathlib.Core.Path.{_∙_}
 use Rattle.place.proofs.Laws.{far, remove-is}
 use borrow.Author.Needs.{needs}
 use native.Mathlib.Omega.{arith}

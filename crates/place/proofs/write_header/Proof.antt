@@ -1,7 +1,7 @@
-use mathlib.Core.Path.{_≡_, refl, sym, ap, _∙_}
+-- `place::write_header` meets its contract: the header's root, levels and count.
+use mathlib.Core.Path.{_∙_}
 use Rattle.place.proofs.Laws.{header-is}
 use borrow.Author.Needs.{needs}
-use native.Mathlib.Omega.{arith}
 use Rattle.place.proofs.write_header.Statement.{statement}
 use Rattle.place.proofs.write_header.Tie as tie
 use Rattle.place.proofs.write_header.Reads as reads

@@ -1,6 +1,7 @@
-use Prim.Native.Nat.{_≤_, _<_, _-_, _+_, _*_, _^_}
+-- `split::entry_pass` and `split::split_page`, which call each other, meet their contracts.
+use Prim.Native.Nat.{_≤_, _<_, _-_, _+_, _*_}
 use native.Mathlib.Nat.{sub-zero}
-use mathlib.Core.Path.{_≡_, refl, sym, ap, _∙_}
+use mathlib.Core.Path.{_≡_, refl, sym, _∙_}
 use lib.ListN.{length}
 use Rattle.steps.specs.Split.{entriesIn, splitIn}
 use Rattle.split.proofs.Laws as laws

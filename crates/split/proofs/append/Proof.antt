@@ -1,5 +1,7 @@
+-- `split::append` meets its contract: the entry of wd words at word a of src goes behind the last entry of page c, unless the page ends
+-- there.
 use Rattle.split.proofs.Laws.{fewer}
-use mathlib.Core.Path.{_≡_, refl, sym, ap, _∙_}
+use mathlib.Core.Path.{_∙_}
 use Rattle.split.proofs.Laws.{append-room, append-full, small, near}
 use borrow.Author.Needs.{needs}
 use native.Mathlib.Omega.{arith}

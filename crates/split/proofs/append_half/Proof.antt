@@ -1,10 +1,11 @@
-use Prim.Native.Nat.{_≤_, _<_, _-_, _+_, _*_}
+-- `split::append_half` meets its contract: one half of the entry at word a of src goes behind the last entry of page c: its word i becomes
+-- x, its child q.
+use Prim.Native.Nat.{_-_, _+_, _*_}
 use lib.Seq.{length-take-le}
-use mathlib.Core.Path.{_≡_, refl, sym, ap, ap₂, _∙_}
+use mathlib.Core.Path.{sym, ap, ap₂, _∙_}
 use Rattle.steps.specs.Machine.{appendIn}
-use lib.Seq.{length-sets}
-use lib.ListN.{length, take, drop, length-take, length-set, replicate}
-use mathlib.Core.Path.{_≡_, refl, sym, ap, _∙_}
+use lib.ListN.{take, drop, length-take, replicate}
+use mathlib.Core.Path.{sym, ap, _∙_}
 use Rattle.split.proofs.Laws.{half-words}
 use borrow.Author.Needs.{needs}
 use native.Mathlib.Omega.{arith}

@@ -1,4 +1,5 @@
-use mathlib.Core.Path.{_≡_, refl, sym, ap, _∙_}
+-- `split::claim` meets its contract: claims the lowest free page of n, or answers 0.
+use mathlib.Core.Path.{sym, _∙_}
 use Rattle.split.proofs.Laws.{claim-none, claim-some}
 use borrow.Author.Needs.{needs}
 use native.Mathlib.Omega.{arith}

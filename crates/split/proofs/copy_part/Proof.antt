@@ -1,6 +1,7 @@
-use Prim.Native.Nat.{_≤_, _<_, _-_, _+_, _*_, _^_}
+-- `split::copy_part` meets its contract: copies `count` words of src from `from` on over x's words from `at` on, as far as both go.
+use Prim.Native.Nat.{_≤_, _-_, _+_}
 use native.Mathlib.Nat.{add-zero}
-use mathlib.Core.Path.{_≡_, refl, sym, ap, _∙_}
+use mathlib.Core.Path.{_≡_, refl, _∙_}
 use lib.Seq.{sets}
 use lib.ListN.{length, take, drop, length-take}
 use Rattle.split.proofs.Laws.{part-end, part-next, part-word}

@@ -1,8 +1,8 @@
+-- `split::crosses` meets its contract: the entry at word a of src lies on both sides of x.
 use lib.Dec.{ltb}
 use mathlib.Core.Bool.{_&&_}
-use mathlib.Core.Path.{_≡_, refl, sym, ap, ap₂, _∙_}
+use mathlib.Core.Path.{ap₂}
 use borrow.Author.Needs.{needs}
-use native.Mathlib.Omega.{arith}
 use Rattle.split.proofs.crosses.Statement.{statement}
 use Rattle.split.proofs.crosses.Tie as tie
 use Rattle.split.proofs.crosses.Reads as reads

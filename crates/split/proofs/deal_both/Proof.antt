@@ -1,4 +1,5 @@
-use mathlib.Core.Path.{_≡_, refl, sym, ap, _∙_}
+-- `split::deal_both` meets its contract: the halves of the entry at word a of src go to pages j and r; q is the child's right page.
+use mathlib.Core.Path.{_∙_}
 use Rattle.split.proofs.Laws.{both-is}
 use borrow.Author.Needs.{needs}
 use native.Mathlib.Omega.{arith}

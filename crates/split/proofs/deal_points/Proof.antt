@@ -1,6 +1,7 @@
-use Prim.Native.Nat.{_≤_, _<_, _-_, _+_, _*_, _^_}
+-- `split::deal_points` meets its contract: the m records of src are dealt out.
+use Prim.Native.Nat.{_≤_, _-_, _+_, _*_}
 use native.Mathlib.Nat.{sub-zero}
-use mathlib.Core.Path.{_≡_, refl, sym, ap, _∙_}
+use mathlib.Core.Path.{_≡_, refl, _∙_}
 use lib.ListN.{length}
 use Rattle.steps.specs.Split.{pointsIn}
 use Rattle.split.proofs.Laws.{points-end, points-next}

@@ -1,7 +1,7 @@
-use mathlib.Core.Path.{_≡_, refl, sym, ap, _∙_}
+-- `split::fresh` meets its contract: page c becomes a page of that kind and splitting domain with no entry.
+use mathlib.Core.Path.{_∙_}
 use Rattle.split.proofs.Laws.{fresh-is}
 use borrow.Author.Needs.{needs}
-use native.Mathlib.Omega.{arith}
 use Rattle.split.proofs.fresh.Statement.{statement}
 use Rattle.split.proofs.fresh.Tie as tie
 use Rattle.split.proofs.fresh.Reads as reads

@@ -1,6 +1,6 @@
-use mathlib.Core.Path.{_≡_, refl, sym, ap, _∙_}
+-- `split::half` meets its contract: writes one half of the entry at word a of src: its word i becomes x, its child q.
+use mathlib.Core.Path.{_∙_}
 use borrow.Author.Needs.{needs}
-use native.Mathlib.Omega.{arith}
 use Rattle.split.proofs.half.Statement.{statement}
 use Rattle.split.proofs.half.Tie as tie
 use Rattle.split.proofs.half.Reads as reads

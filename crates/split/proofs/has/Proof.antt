@@ -1,6 +1,6 @@
+-- `split::has` meets its contract: how many of the `count` words from `from` on src has.
 use Rattle.split.proofs.Laws.{has-none, has-less, has-all}
 use borrow.Author.Needs.{needs}
-use native.Mathlib.Omega.{arith}
 use Rattle.split.proofs.has.Statement.{statement}
 use Rattle.split.proofs.has.Tie as tie
 use Rattle.split.proofs.has.Reads as reads

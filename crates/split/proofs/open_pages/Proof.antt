@@ -1,4 +1,5 @@
-use mathlib.Core.Path.{_≡_, refl, sym, ap, _∙_}
+-- `split::open_pages` meets its contract: claims the right page, and clears page j for the left: the right page, or 0.
+use mathlib.Core.Path.{_∙_}
 use Rattle.split.proofs.Laws.{open-none, open-some}
 use borrow.Author.Needs.{needs}
 use native.Mathlib.Omega.{arith}

@@ -1,4 +1,5 @@
-use mathlib.Core.Path.{_≡_, refl, sym, ap, _∙_}
+-- `split::part_points` meets its contract: the m records of src go to page j and a claimed page, both of domain e: the claimed page, or 0.
+use mathlib.Core.Path.{_∙_}
 use Rattle.split.proofs.Laws.{points-none, points-some}
 use borrow.Author.Needs.{needs}
 use native.Mathlib.Omega.{arith}

@@ -1,4 +1,6 @@
-use mathlib.Core.Path.{_≡_, refl, sym, ap, _∙_}
+-- `split::part_regions` meets its contract: the m entries of src, `level` levels above the point pages, go to page j and a claimed page,
+-- both of domain e: the claimed page, or 0.
+use mathlib.Core.Path.{_∙_}
 use Rattle.split.proofs.Laws as laws
 use borrow.Author.Needs.{needs}
 use native.Mathlib.Omega.{arith}
