@@ -7,9 +7,10 @@ use mathlib.Core.Path.{_≡_, refl}
 use Prim.Native.Nat.{ℕ, zero, suc, _+_}
 use lib.ListN.{replicate}
 use Rattle.kdb.specs.Lists.{every, gather, pad, same}
+use Rattle.kdb.specs.Pages.{regionsPer, pointsPer}
 use Rattle.kdb.specs.Pool.{goodLength, goodHeader}
 use Rattle.kdb.specs.Print.{sound}
-use Rattle.kdb.specs.Calls.{Call, format, check, place, find, list, Buffers, outcome, lent}
+use Rattle.kdb.specs.Calls.{Call, format, check, place, remove, find, list, Buffers, outcome, lent}
 use Rattle.kdb.specs.History.{answers}
 
 pub record Row : Type 0 where
@@ -148,6 +149,13 @@ crossed =
     ∷ (2 ∷ 6 ∷ 0 ∷ 0 ∷ 26 ∷ 37 ∷ 5 ∷ 6 ∷ 31 ∷ 10 ∷ 16 ∷ 36 ∷ 11 ∷ 13 ∷ 29 ∷ 14 ∷ 13 ∷ 39 ∷ 18 ∷ 22 ∷ 39 ∷ 28 ∷ [])
     ∷ (1 ∷ 2 ∷ 0 ∷ 0 ∷ 0 ∷ 0 ∷ 5 ∷ inf ∷ 3 ∷ 5 ∷ 0 ∷ inf ∷ inf ∷ 8 ∷ []) ∷ [])
 
+-- spoilt pools: page 1 has one entry, [0, hi) with page 2; page 1 names page 2 twice
+abbrev pub one-entry : ℕ → List ℕ → List ℕ
+one-entry hi page = pool-of ((1 ∷ 3 ∷ 1 ∷ 2 ∷ []) ∷ (1 ∷ 1 ∷ 0 ∷ 0 ∷ 0 ∷ hi ∷ 2 ∷ []) ∷ page ∷ [])
+
+abbrev pub named-twice : List ℕ
+named-twice = pool-of ((1 ∷ 3 ∷ 1 ∷ 2 ∷ []) ∷ (1 ∷ 2 ∷ 0 ∷ 0 ∷ 0 ∷ inf ∷ 2 ∷ 0 ∷ inf ∷ 2 ∷ []) ∷ (2 ∷ 1 ∷ 0 ∷ 0 ∷ 5 ∷ 7 ∷ []) ∷ [])
+
 abbrev pub table : List Row
 table =
     -- 1. format: lengths 64 and 16,384 are taken; 0, 32, 63 and 16,416 give 1
@@ -183,8 +191,36 @@ table =
     -- besides the ten: a chosen split of a region page with a crossing entry
     ∷ leaves uncrossed (place (junk 352) (27 ∷ 7 ∷ []) 29 ∷ []) (done 1) crossed uncrossed
     ∷ tells crossed (check ∷ []) (done 1)
+    -- a remove closes the gap, keeps the order and lowers word 4
+    ∷ record {
+      start = fifteen;
+      calls = remove (30 ∷ []) ∷ [];
+      told = (0 ∷ 30 ∷ []) ∷ [];
+      pool = some (pool-of ((1 ∷ 4 ∷ 3 ∷ 2 ∷ 14 ∷ [])
+          ∷ (2 ∷ 6 ∷ 0 ∷ 0 ∷ 10 ∷ 10 ∷ 20 ∷ 20 ∷ 40 ∷ 40 ∷ 50 ∷ 50 ∷ 60 ∷ 60 ∷ 70 ∷ 70 ∷ [])
+          ∷ (2 ∷ 8 ∷ 0 ∷ 0 ∷ 80 ∷ 80 ∷ 90 ∷ 90 ∷ 100 ∷ 100 ∷ 110 ∷ 110 ∷ 120 ∷ 120 ∷ 130 ∷ 130 ∷ 140 ∷ 140 ∷ 150 ∷ 150 ∷ [])
+          ∷ (1 ∷ 2 ∷ 0 ∷ 0 ∷ 0 ∷ 80 ∷ 1 ∷ 80 ∷ inf ∷ 2 ∷ []) ∷ []));
+      work = none;
+      answer = none;
+    }
+    -- a refused place leaves work
+    ∷ leaves fifteen (place (junk 128) (80 ∷ []) 5 ∷ []) ((7 ∷ []) ∷ []) fifteen (junk 128)
+    ∷ leaves fifteen (place (junk 128) (inf ∷ []) 5 ∷ []) ((4 ∷ []) ∷ []) fifteen (junk 128)
+    ∷ leaves fifteen (place (junk 96) (5 ∷ []) 5 ∷ []) ((3 ∷ []) ∷ []) fifteen (junk 96)
+    -- a bad page: 6, every slot 0
+    ∷ lists (one-entry inf []) (0 ∷ top ∷ []) (9 ∷ 9 ∷ []) (6 ∷ []) (0 ∷ 0 ∷ [])
+    -- pages 1, 2 and 2 again would be N pages read: 6, every slot 0; a find reads 2
+    ∷ lists named-twice (0 ∷ top ∷ []) (9 ∷ 9 ∷ []) (6 ∷ []) (0 ∷ 0 ∷ [])
+    ∷ tells named-twice (find (5 ∷ []) ∷ []) ((0 ∷ 7 ∷ 2 ∷ []) ∷ [])
+    -- no entry holds the point: find 6; the window meets no entry: one page read, the slots unchanged
+    ∷ tells (one-entry 10 (2 ∷ [])) (find (20 ∷ []) ∷ []) ((6 ∷ []) ∷ [])
+    ∷ lists (one-entry 10 (2 ∷ [])) (20 ∷ 20 ∷ []) (9 ∷ 9 ∷ []) (0 ∷ 0 ∷ 1 ∷ []) (9 ∷ 9 ∷ [])
     ∷ []
 
 pub starred : every passes table ≡ true
 unfolding outcome goodLength goodHeader sound
 starred = refl
+
+-- document 01's table of R and P is the rule that the definitions use
+pub capacities : (map (regionsPer 32) (1 ∷ 2 ∷ 3 ∷ 4 ∷ []) ≡ 9 ∷ 5 ∷ 4 ∷ 3 ∷ []) × (map (pointsPer 32) (1 ∷ 2 ∷ 3 ∷ 4 ∷ []) ≡ 14 ∷ 9 ∷ 7 ∷ 5 ∷ [])
+capacities = (refl, refl)

@@ -3,7 +3,7 @@
 use mathlib.Core.Bool.{Bool, true, false, _&&_, not, cond}
 use mathlib.Core.List.{List, [], _∷_, _++_, map}
 use mathlib.Core.Option.{Option, none, some}
-use mathlib.Core.Path.{_≡_, refl, sym, ap, _∙_, subst}
+use mathlib.Core.Path.{_≡_, refl, sym, ap, ap₂, _∙_, subst}
 use Prim.Native.Nat.{ℕ, zero, suc, _+_, _≤_, _<_}
 use native.Mathlib.Omega.{arith}
 use lib.Dec.{T, eqb, eqb→eq, T-not}
@@ -19,10 +19,10 @@ use Rattle.kdb.specs.Shape.{WellFormed}
 use Rattle.kdb.specs.Pool.{domains, pagesIn, goodLength, goodHeader, Sound, ownRegion}
 use Rattle.kdb.specs.Print.{printed, stateOf, sound}
 use Rattle.kdb.specs.Walk.{Spot, End, rootless, bad, absent, here, findWalk, listWalk}
-use Rattle.kdb.specs.Calls.{L, Call, format, check, place, remove, find, list, Outcome, goodDomains, finite, present, placing, removing, stepped, outcome, windowOf, walkOf, begins, Buffers, unless, judge, _or_, lent, core}
+use Rattle.kdb.specs.Calls.{L, Call, format, check, place, remove, find, list, Outcome, goodDomains, finite, present, placing, removing, stepped, outcome, windowOf, walkOf, begins, Promise}
 use Rattle.kdb.specs.History.{answerOf, run, answers, change, changed, live, Keeps}
-use Rattle.kdb.specs.Demands.{SameRecords, keyed, liveAfter, Demand2, ByTheSteps, goodWindow, Shares, Demand3, Bounded, goodPoint, Demand1}
-use Rattle.kdb.proofs.Walk.{walk-bound, list-returns, find-returns}
+use Rattle.kdb.specs.Demands.{SameRecords, keyed, inside, liveAfter, Demand2, ByTheSteps, goodWindow, Shares, Demand3, Bounded, goodPoint}
+use Rattle.kdb.proofs.Walk.{walk-bound, walk-pages, walk-silent, list-returns, find-returns}
 use Rattle.kdb.proofs.Lists.{and-l, and-r, and-i, bool, tally-append, to-bit, no-bit, same-refl, In, is-true, of-true, tally-imp}
 use Rattle.kdb.proofs.Stands.{Stands}
 use Rattle.kdb.proofs.Views.{finite-whole}
@@ -36,7 +36,7 @@ use Rattle.kdb.proofs.Calls.{done, refusal-keeps, check-still, find-sti
 use Rattle.kdb.proofs.History.{without-tally, changed-same, keeps-run}
 use Rattle.kdb.proofs.Answers.{list-begins, find-begins, list-answers, find-finds, one-located}
 
-big : 5 ≤ L
+pub big : 5 ≤ L
 big = omega arith
 
 -- a printed state: sound, and read back
@@ -54,7 +54,7 @@ pub record Passed (w p : List ℕ) : Type 0 where
   pub ends : T (finite p)
   pub well : Sound L w
 
-passed-within : (w p : List ℕ) → Passed w p → T (within (whole (domains w)) p)
+pub passed-within : (w p : List ℕ) → Passed w p → T (within (whole (domains w)) p)
 passed-within w p h = finite-whole (domains w) p (h .long) (h .ends)
 
 -- a walk to a point that does not end at a record finds no record with its keys
@@ -262,6 +262,19 @@ pub demand2-code : (w v : List ℕ) (cs : List Call) (os : List Outcome) → Sou
     → Demand2 w cs × (v ≡ run w cs) × (map answerOf os ≡ answers w cs)
 demand2-code w v cs os s k = let r = keeps-run k in (demand2 w cs s, r .0, r .1)
 
+-- what such code tells of a window is the number of live records in it
+pub demand2-told : (w v : List ℕ) (cs : List Call) (os : List Outcome) → Sound L w → Keeps w cs os v
+    → (win slots : List ℕ) (o : Outcome) → Promise v (list win slots) o → T (goodWindow (domains v) win)
+    → (o .number ≡ 0) × (getD (o .values) 0 0 ≡ length (inside (domains v) win (live (recordsOf (stateOf L w)) cs (map answerOf os))))
+demand2-told w v cs os s k win slots o promise h =
+    let r = keeps-run k in
+    let told = demand2 w cs s .lists win slots (subst (λ u. T (goodWindow (domains u) win)) (r .0) h) in
+    let e : o ≡ outcome (run w cs) (list win slots) = promise .kept ∙ ap (λ u. outcome u (list win slots)) (r .0) in (
+      ap (λ x. x .number) e ∙ told .done,
+      ap (λ x. getD (x .values) 0 0) e ∙ (told .total
+          ∙ ap₂ (λ u l. length (inside (domains u) win l)) (sym (r .0)) (ap (live (recordsOf (stateOf L w)) cs) (sym (r .1)))),
+    )
+
 pub demand2-code-format : (w v : List ℕ) (k : ℕ) (cs : List Call) (os : List Outcome) → outcome w (format k) .number ≡ 0 → Keeps w (format k ∷ cs) os v
     → Demand2 w (format k ∷ cs) × (v ≡ run w (format k ∷ cs)) × (map answerOf os ≡ answers w (format k ∷ cs))
 demand2-code-format w v k cs os z q = let r = keeps-run q in (demand2-format w k cs z, r .0, r .1)
@@ -324,122 +337,8 @@ pub bounded : (w : List ℕ) → Bounded w
 bounded w =
     record {
       most = walk-bound w;
+      pages = walk-pages w;
+      silent = walk-silent w;
       found = λ p z. ap (λ l. getD l 1 0) (find-returns w p z .2);
       listed = λ v slots z. ap (λ l. getD l 1 0) (list-returns w v slots z .1);
-    }
-
--- 9 exactly if the steps would claim more pages than are free, once place has passed its tests
-pub nine-iff : (w work p : List ℕ) (l : ℕ) → T (begins w (place work p l))
-    → (outcome w (place work p l) .number ≡ 9)
-    ↔ (length (freeOf (pagesIn L w) (pagesOf (stateOf L w))) < claims (domains w) (regionsPer L (domains w)) (pointsPer L (domains w)) (pagesIn L w) (stateOf L w) (record { key = p; loc = l }))
-nine-iff w work p l h =
-    let q : Rec = record { key = p; loc = l } in
-    let o = goes-on w (place work p l) h in
-    let i = placed-none-iff L (domains w) (pagesIn L w) (stateOf L w) q (place-placing w work p l h) in
-    (λ z. i .0 (short (stepped w q) (sym (ap (λ x. x .number) o) ∙ z)), λ m. ap (λ x. x .number) o ∙ ap (λ s. placing s w .number) (i .1 m))
-  where
-    short : (s : Option State) → placing s w .number ≡ 9 → s ≡ none
-    short none z = refl
-    short (some s) z = absurd (omega arith)
-
--- Demand 1: what the refusals mean
-module _ (w p : List ℕ) (h : Passed w p) where
-  -- find's walk by the records of a sound pool
-  by-records : (P : End → Type 0) → (tally (keyed p) (recordsOf (stateOf L w)) ≡ 0 → P rootless) → ((j : ℕ) → tally (keyed p) (recordsOf (stateOf L w)) ≡ 0 → P (absent j))
-      → ((x : Spot) → x .rec .key ≡ p → In (x .rec) (recordsOf (stateOf L w)) → P (here x)) → P (findWalk L w p .end)
-  by-records P r a x = go (stateOf L w) (Sound-stands L w (h .well) big) r a x
-    where
-      by-end : (rs : List Rec) (e : End) → Answers rs p e → ((j : ℕ) → tally (keyed p) rs ≡ 0 → P (absent j)) → ((x : Spot) → x .rec .key ≡ p → In (x .rec) rs → P (here x)) → P e
-      by-end rs rootless q a x = absurd q
-      by-end rs bad q a x = absurd q
-      by-end rs (absent j) q a x = a j q
-      by-end rs (here y) q a x = x y (q .0) (q .1)
-
-      go : (s : State) → Stands L w s → (tally (keyed p) (recordsOf s) ≡ 0 → P rootless) → ((j : ℕ) → tally (keyed p) (recordsOf s) ≡ 0 → P (absent j))
-          → ((x : Spot) → x .rec .key ≡ p → In (x .rec) (recordsOf s) → P (here x)) → P (findWalk L w p .end)
-      go none st r a x = subst P (sym (find-rootless L w p st)) (r refl)
-      go (some t) st r a x = by-end (records t) (findWalk L w p .end) (find-answers L w p t st (passed-within w p h)) a x
-
-  counts : (r : Rec) → r .key ≡ p → In r (recordsOf (stateOf L w)) → 1 ≤ tally (keyed p) (recordsOf (stateOf L w))
-  counts r e i = i .counted (keyed p) (rw e (same-refl p))
-
-  present-iff : T (present (findWalk L w p .end)) ↔ (1 ≤ tally (keyed p) (recordsOf (stateOf L w)))
-  present-iff =
-      by-records (λ e. T (present e) ↔ (1 ≤ tally (keyed p) (recordsOf (stateOf L w)))) (λ z. (λ t. absurd t, λ n. absurd (omega arith))) (λ j z. (λ t. absurd t, λ n. absurd (omega arith)))
-      (λ x e i. (λ t. counts (x .rec) e i, λ n. tt))
-
-good-passed : (w p : List ℕ) → Sound L w → T (goodPoint (domains w) p) → Passed w p
-good-passed w p s h = record { long = eqb→eq (length p) (domains w) (and-l (eqb (length p) (domains w)) _ h); ends = and-r (eqb (length p) (domains w)) _ h; well = s }
-
-remove-begins : (w p : List ℕ) → Sound L w → T (goodPoint (domains w) p) → T (begins w (remove p))
-remove-begins w p s h =
-    let i = eqb (length p) (domains w) in
-    and-i (goodLength L w) _ (s .words) (and-i (goodHeader L w) _ (s .header) (and-i i _ (and-l i _ h) (and-i (finite p) _ (and-r i _ h) (and-i (sound L w) true (sound-iff L big w .1 s) tt))))
-
-check-six : (w : List ℕ) → T (goodLength L w) → (outcome w check .number ≡ 6) ↔ (Sound L w → ⊥)
-unfolding outcome
-check-six w t = (
-  λ z s. let e = goes-on w check (and-i (goodLength L w) _ t (and-i (goodHeader L w) _ (s .header) (and-i (sound L w) true (sound-iff L big w .1 s) tt))) in
-      omega (arith, ap (λ o. o .number) e),
-  λ n. go (goodLength L w) (goodHeader L w) (sound L w) t (λ c. n (sound-iff L big w .0 c)),
-)
-  where
-    go : (a b c : Bool) → T a → (T c → ⊥) → judge ((a or 1) ∷ (b or 6) ∷ (c or 6) ∷ []) (lent w check) (core w check) .number ≡ 6
-    go false b c t n = absurd t
-    go true false c t n = refl
-    go true true false t n = refl
-    go true true true t n = absurd (n tt)
-
--- place's tests up to 7
-place-seven : (w work p : List ℕ) (l : ℕ) → Sound L w → T (goodPoint (domains w) p) → length work ≡ length w
-    → outcome w (place work p l) ≡ unless (not (present (findWalk L w p .end))) 7 (lent w (place work p l)) (core w (place work p l))
-unfolding outcome
-place-seven w work p l s h e =
-    let i = eqb (length p) (domains w) in
-    let j = eqb (length work) (length w) in
-    judge-past
-    ((goodLength L w or 1) ∷ (goodHeader L w or 6) ∷ ((i && j) or 3) ∷ (finite p or 4) ∷ (sound L w or 6) ∷ [])
-    ((not (present (findWalk L w p .end)) or 7) ∷ []) (lent w (place work p l)) (core w (place work p l))
-    (and-i (goodLength L w) _ (s .words) (and-i (goodHeader L w) _ (s .header) (and-i (i && j) _ (and-i i j (and-l i _ h) (of-true j (eq-eqb (length work) (length w) e)))
-    (and-i (finite p) _ (and-r i _ h) (and-i (sound L w) true (sound-iff L big w .1 s) tt)))))
-
-placing-number : (w : List ℕ) (o : Option State) → placing o w .number ≡ 7 → ⊥
-placing-number w none z = omega arith
-placing-number w (some s) z = omega arith
-
-unless-seven : (t : Bool) (b : Buffers) (o : Outcome) → (o .number ≡ 7 → ⊥) → (unless (not t) 7 b o .number ≡ 7) ↔ T t
-unless-seven true b o n = (λ z. tt, λ t. refl)
-unless-seven false b o n = (λ z. absurd (n z), λ t. absurd t)
-
--- remove's outcome by the records
-module _ (w p : List ℕ) (s : Sound L w) (h : T (goodPoint (domains w) p)) where
-  remove-is : outcome w (remove p) ≡ removing (findWalk L w p .end) w p
-  remove-is = goes-on w (remove p) (remove-begins w p s h)
-
-  remove-eight : (outcome w (remove p) .number ≡ 8) ↔ (tally (keyed p) (recordsOf (stateOf L w)) ≡ 0)
-  remove-eight =
-      subst (λ o. (o .number ≡ 8) ↔ (tally (keyed p) (recordsOf (stateOf L w)) ≡ 0)) (sym remove-is)
-      (by-records w p (good-passed w p s h) (λ e. (removing e w p .number ≡ 8) ↔ (tally (keyed p) (recordsOf (stateOf L w)) ≡ 0)) (λ z. (λ _. z, λ _. refl)) (λ j z. (λ _. z, λ _. refl))
-      (λ x e i. (λ z. absurd (omega arith), λ z. absurd (omega (arith, counts w p (good-passed w p s h) (x .rec) e i)))))
-
-  remove-gone : (l : ℕ) → 1 ≤ tally (λ r. same p (r .key) && eqb l (r .loc)) (recordsOf (stateOf L w)) → (outcome w (remove p) .number ≡ 0) × (outcome w (remove p) .values ≡ l ∷ [])
-  remove-gone l n =
-      let rs = recordsOf (stateOf L w) in
-      let some-keyed : 1 ≤ tally (keyed p) rs = omega (arith, tally-imp (λ r. same p (r .key) && eqb l (r .loc)) (keyed p) (λ r. and-l (same p (r .key)) (eqb l (r .loc))) rs) in
-      let once = key-once L (domains w) (pagesIn L w) (stateOf L w) p (Sound-stands L w s big .formed) in
-      subst (λ o. (o .number ≡ 0) × (o .values ≡ l ∷ [])) (sym remove-is)
-      (by-records w p (good-passed w p s h) (λ e. (removing e w p .number ≡ 0) × (removing e w p .values ≡ l ∷ [])) (λ z. absurd (omega arith)) (λ j z. absurd (omega arith))
-      (λ x e i. (refl, ap (λ m. m ∷ []) (one-located p l (x .rec) rs i e once n))))
-
-pub demand1 : (w : List ℕ) → Demand1 w
-demand1 w =
-    record {
-      six = check-six w;
-      seven = λ work p l s h e.
-          let u = unless-seven (present (findWalk L w p .end)) (lent w (place work p l)) (core w (place work p l)) (placing-number w (stepped w (record { key = p; loc = l }))) in
-          let q = place-seven w work p l s h e in
-          let i = present-iff w p (good-passed w p s h) in
-          (λ z. i .0 (u .0 (sym (ap (λ o. o .number) q) ∙ z)), λ n. ap (λ o. o .number) q ∙ u .1 (i .1 n));
-      eight = λ p s h. remove-eight w p s h;
-      gone = λ p l s h n. remove-gone w p s h l n;
     }

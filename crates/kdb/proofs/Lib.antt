@@ -16,6 +16,7 @@ pub mod Local
 pub mod History
 pub mod Answers
 pub mod Demands
+pub mod Refusals
 pub mod Pool
 pub mod Format
 pub mod Frames

@@ -129,6 +129,15 @@ page-e L w j h = (leb→le 1 j (and-l (leb 1 j) _ h), ltb→lt j (pagesIn L w) (
 pub walk-pages : (w : List ℕ) (c : Call) (j : ℕ) → 1 ≤ many j (walkOf w c) → (1 ≤ j) × (j < pagesIn 32 w)
 walk-pages w c j h = page-e 32 w j (every-many (isPage 32 w) (walkOf w c) (walk-every w c) j h)
 
+-- a call refused before its walk begins reads nothing
+pub walk-silent : (w : List ℕ) (c : Call) → begins w c ≡ false → walkOf w c ≡ []
+walk-silent w (format k) e = refl
+walk-silent w check e = refl
+walk-silent w (place work p l) e = refl
+walk-silent w (remove p) e = refl
+walk-silent w (find p) e = rw e
+walk-silent w (list v answer) e = rw e
+
 -- a find that is done has found a record, and returns its location and the walk's length
 pub find-returns : (w p : List ℕ) → outcome w (find p) .number ≡ 0
     → (x : Spot) × (findWalk 32 w p .end ≡ here x) × (outcome w (find p) .values ≡ x .rec .loc ∷ length (walkOf w (find p)) ∷ [])

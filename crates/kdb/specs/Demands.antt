@@ -1,23 +1,23 @@
--- The three demands as statements, each with a field for each thing it says; `Demands` in proofs/ proves them. That every call takes every
--- input, and leaves every word as it does, is `outcome` in Calls.antt: a function, with the refusals as a table. `Demand1` says of the
--- refusals that the table gives by a test, a walk or a step what they mean.
+-- The three demands as statements, each with a field for each thing it says. `outcome` in Calls.antt is a function of every input and fixes
+-- every word; here stands what its numbers, its buffers and its walks mean, in document 01's words. Proofs: Refusals (demand 1), Demands
+-- (2 and 3) and Local in proofs/.
 use mathlib.Core.Bool.{Bool, true, false, _&&_}
 use mathlib.Core.List.{List, [], _∷_, _++_, map}
 use mathlib.Core.Logic.{_↔_}
 use mathlib.Core.Option.{Option, none, some}
 use mathlib.Core.Path.{_≡_}
-use Prim.Native.Nat.{ℕ, _*_, _-_, _≤_}
+use Prim.Native.Nat.{ℕ, _*_, _-_, _≤_, _<_}
 use lib.Dec.{T, eqb}
-use lib.ListN.{length, take, drop, getD}
+use lib.ListN.{length, take, drop, getD, replicate}
 use Rattle.kdb.specs.Lists.{only, tally, many, same}
 use Rattle.kdb.specs.Box.{Box, Key, within, inWindow, meets}
 use Rattle.kdb.specs.Tree.{Rec, State, recordsOf}
 use Rattle.kdb.specs.Steps.{removed}
 use Rattle.kdb.specs.Pages.{page}
-use Rattle.kdb.specs.Pool.{domains, levelsAt, pagesIn, goodLength, numbers, Sound, ownRegion}
+use Rattle.kdb.specs.Pool.{domains, levelsAt, pagesIn, goodLength, goodHeader, numbers, Sound, ownRegion}
 use Rattle.kdb.specs.Print.{printed, stateOf}
 use Rattle.kdb.specs.Walk.{listWalk}
-use Rattle.kdb.specs.Calls.{L, Call, format, check, place, remove, find, list, Outcome, finite, windowOf, ordered, stepped, outcome, walkOf}
+use Rattle.kdb.specs.Calls.{L, Call, format, check, place, remove, find, list, Outcome, goodDomains, finite, windowOf, ordered, stepped, outcome, begins, walkOf}
 use Rattle.kdb.specs.History.{run, answers, live}
 
 -- the same records, each as often: equal counts for every test
@@ -57,15 +57,87 @@ pub record FindsExactly (w : List ℕ) (rs : List Rec) (p : List ℕ) : Type 0 w
   pub here : (l : ℕ) → 1 ≤ tally (λ r. same p (r .key) && eqb l (r .loc)) rs → (outcome w (find p) .number ≡ 0) × (getD (outcome w (find p) .values) 0 0 ≡ l)
   pub absent : tally (keyed p) rs ≡ 0 → outcome w (find p) .number ≡ 8
 
--- Demand 1, where the table gives a refusal by a test or a walk: 6 exactly on pools that are not sound; on a sound pool 7 exactly if a
--- record has the point's keys, remove's 8 exactly if none has, and remove returns the location of the record that goes
+-- what a call is lent beside the pool has the right length: a point K words, a window 2K, the work buffer as many as the pool
+abbrev pub fitting : List ℕ → Call → Bool
+fitting w (format k) = true
+fitting w check = true
+fitting w (place work p l) = eqb (length p) (domains w) && eqb (length work) (length w)
+fitting w (remove p) = eqb (length p) (domains w)
+fitting w (find p) = eqb (length p) (domains w)
+fitting w (list v answer) = eqb (length v) (2 * domains w)
+
+-- the keys or window ends of a call
+abbrev pub endsOf : Call → List ℕ
+endsOf (format k) = []
+endsOf check = []
+endsOf (place work p l) = p
+endsOf (remove p) = p
+endsOf (find p) = p
+endsOf (list v answer) = v
+
+-- all calls but format look at the header
+abbrev pub headed : Call → Bool
+headed (format k) = false
+headed check = true
+headed (place work p l) = true
+headed (remove p) = true
+headed (find p) = true
+headed (list v answer) = true
+
+-- length and header of the pool are right: neither 1 nor the header's 6
+pub record Headed (w : List ℕ) : Type 0 where
+  pub long : T (goodLength L w)
+  pub header : T (goodHeader L w)
+
+-- and so are the lengths of what the call is lent, and its keys: nor 3, nor 4
+pub record Taken (w : List ℕ) (c : Call) : Type 0 where
+  pub headed : Headed w
+  pub fits : T (fitting w c)
+  pub ends : T (finite (endsOf c))
+
+-- a sound pool takes a new point
+pub record New (w work p : List ℕ) : Type 0 where
+  pub sound : Sound L w
+  pub point : T (goodPoint (domains w) p)
+  pub long : length work ≡ length w
+  pub absent : tally (keyed p) (recordsOf (stateOf L w)) ≡ 0
+
+-- Demand 1: each refusal exactly in its case, where no earlier one is given; else the call is done
 pub record Demand1 (w : List ℕ) : Type 0 where
+  pub one : (c : Call) → (outcome w c .number ≡ 1) ↔ (T (goodLength L w) → ⊥)
+  pub two : (k : ℕ) → T (goodLength L w) → (outcome w (format k) .number ≡ 2) ↔ (T (goodDomains k) → ⊥)
+  pub formats : (k : ℕ) → T (goodLength L w) → T (goodDomains k) → outcome w (format k) .number ≡ 0
+  pub header : (c : Call) → T (headed c) → T (goodLength L w) → (T (goodHeader L w) → ⊥) → outcome w c .number ≡ 6
+  pub three : (c : Call) → T (headed c) → Headed w → (outcome w c .number ≡ 3) ↔ (T (fitting w c) → ⊥)
+  pub four : (c : Call) → T (headed c) → Headed w → T (fitting w c) → (outcome w c .number ≡ 4) ↔ (T (finite (endsOf c)) → ⊥)
+  pub five : (v answer : List ℕ) → Taken w (list v answer) → (outcome w (list v answer) .number ≡ 5) ↔ (T (ordered (windowOf (domains w) v)) → ⊥)
+  -- 6 exactly if the pool is not sound
   pub six : T (goodLength L w) → (outcome w check .number ≡ 6) ↔ (Sound L w → ⊥)
+  pub checks : Sound L w → outcome w check .number ≡ 0
+  pub sixPlace : (work p : List ℕ) (l : ℕ) → Taken w (place work p l) → (outcome w (place work p l) .number ≡ 6) ↔ (Sound L w → ⊥)
+  pub sixRemove : (p : List ℕ) → Taken w (remove p) → (outcome w (remove p) .number ≡ 6) ↔ (Sound L w → ⊥)
+  -- on a sound pool 7 exactly if a record has the point's keys, remove's 8 exactly if none has; remove returns the record's location
   pub seven : (work p : List ℕ) (l : ℕ) → Sound L w → T (goodPoint (domains w) p) → length work ≡ length w
       → (outcome w (place work p l) .number ≡ 7) ↔ (1 ≤ tally (keyed p) (recordsOf (stateOf L w)))
   pub eight : (p : List ℕ) → Sound L w → T (goodPoint (domains w) p) → (outcome w (remove p) .number ≡ 8) ↔ (tally (keyed p) (recordsOf (stateOf L w)) ≡ 0)
   pub gone : (p : List ℕ) (l : ℕ) → Sound L w → T (goodPoint (domains w) p) → 1 ≤ tally (λ r. same p (r .key) && eqb l (r .loc)) (recordsOf (stateOf L w))
       → (outcome w (remove p) .number ≡ 0) × (outcome w (remove p) .values ≡ l ∷ [])
+  -- a new point is placed, or gets 9 exactly if the steps lack a page
+  pub nine : (work p : List ℕ) (l : ℕ) → New w work p → (outcome w (place work p l) .number ≡ 9) ↔ (stepped w (record { key = p; loc = l }) ≡ none)
+  pub places : (work p : List ℕ) (l : ℕ) → New w work p → (outcome w (place work p l) .number ≡ 9 → ⊥) → outcome w (place work p l) .number ≡ 0
+
+-- What a call leaves in the buffers: the pool is unchanged after every refusal; after 0 and 9 place's work buffer is the pool before the
+-- call, after other refusals it is unchanged; where list's walk meets a bad page every slot is 0, after other refusals the slots are
+-- unchanged
+pub record Leaves (w : List ℕ) : Type 0 where
+  pub pool : (c : Call) → (outcome w c .number ≡ 0 → ⊥) → outcome w c .after .pool ≡ w
+  pub done : (work p : List ℕ) (l : ℕ) → outcome w (place work p l) .number ≡ 0 → outcome w (place work p l) .after .work ≡ w
+  pub short : (work p : List ℕ) (l : ℕ) → outcome w (place work p l) .number ≡ 9 → outcome w (place work p l) .after .work ≡ w
+  pub work : (work p : List ℕ) (l : ℕ) → (outcome w (place work p l) .number ≡ 0 → ⊥) → (outcome w (place work p l) .number ≡ 9 → ⊥)
+      → outcome w (place work p l) .after .work ≡ work
+  pub early : (v answer : List ℕ) → begins w (list v answer) ≡ false → outcome w (list v answer) .after .answer ≡ answer
+  pub bad : (v answer : List ℕ) → T (begins w (list v answer)) → (outcome w (list v answer) .number ≡ 0 → ⊥)
+      → outcome w (list v answer) .after .answer ≡ replicate (length answer) 0
 
 -- the live records after the calls, from those in the pool before them, the calls, and their answers
 abbrev pub liveAfter : List ℕ → List Call → List Rec
@@ -108,9 +180,12 @@ pub record Demand3 (w : List ℕ) : Type 0 where
   -- find's walk, answered or refused, is that of the window of its point
   pub path : (p slots : List ℕ) → T (goodPoint (domains w) p) → walkOf w (find p) ≡ walkOf w (list (p ++ p) slots)
 
--- Demand 3, on any words: no walk is longer than N − 1, refused walks included, and the count returned is the walk's length
+-- Demand 3, on any words: no walk is longer than N − 1, refused walks included, its numbers are those of pages, a call refused before its
+-- walk begins reads nothing, and the count returned is the walk's length
 pub record Bounded (w : List ℕ) : Type 0 where
   pub most : (c : Call) → length (walkOf w c) ≤ pagesIn L w - 1
+  pub pages : (c : Call) (j : ℕ) → 1 ≤ many j (walkOf w c) → (1 ≤ j) × (j < pagesIn L w)
+  pub silent : (c : Call) → begins w c ≡ false → walkOf w c ≡ []
   pub found : (p : List ℕ) → outcome w (find p) .number ≡ 0 → getD (outcome w (find p) .values) 1 0 ≡ length (walkOf w (find p))
   pub listed : (v slots : List ℕ) → outcome w (list v slots) .number ≡ 0 → getD (outcome w (list v slots) .values) 1 0 ≡ length (walkOf w (list v slots))
 

@@ -1,0 +1,402 @@
+-- Demand 1: each refusal exactly in its case. A refusal of the table is given exactly if its test fails and those before it hold
+-- (`given`); what 6, 7, 8 and 9 mean follows by the laws of sound pools. And what a call leaves in its buffers.
+use mathlib.Core.Bool.{Bool, true, false, _&&_, not, cond}
+use mathlib.Core.List.{List, [], _∷_, _++_}
+use mathlib.Core.Option.{Option, none, some}
+use mathlib.Core.Path.{_≡_, refl, sym, ap, _∙_, subst}
+use Prim.Native.Nat.{ℕ, zero, suc, _≤_, _<_}
+use native.Mathlib.Omega.{arith}
+use lib.Dec.{T, eqb, eqb→eq, T-not}
+use lib.ListN.{length, take, drop, replicate}
+use mathlib.Core.Logic.{_↔_}
+use borrow.Author.Tests.{eq-eqb}
+use Rattle.kdb.specs.Lists.{every, tally, same}
+use Rattle.kdb.specs.Box.{whole, within}
+use Rattle.kdb.specs.Tree.{Rec, State, Tree, records, recordsOf, pagesOf}
+use Rattle.kdb.specs.Steps.{freeOf}
+use Rattle.kdb.specs.Pages.{regionsPer, pointsPer}
+use Rattle.kdb.specs.Pool.{domains, pagesIn, goodLength, goodHeader, Sound}
+use Rattle.kdb.specs.Print.{stateOf, sound}
+use Rattle.kdb.specs.Walk.{Spot, Tour, End, rootless, bad, absent, here, Search, ends, findWalk, listWalk}
+use Rattle.kdb.specs.Calls.{L, Call, format, check, place, remove, find, list, Outcome, Buffers, Test, goodDomains, finite, ordered, windowOf, present, placing, removing, finding, listing, stepped, outcome, begins, unless, judge, _or_, lent, tests, core}
+use Rattle.kdb.specs.Demands.{keyed, goodPoint, fitting, endsOf, headed, Headed, Taken, New, Demand1, Leaves}
+use Rattle.kdb.proofs.Lists.{and-l, and-r, and-i, same-refl, In, is-true, of-true, bool, tally-imp}
+use Rattle.kdb.proofs.Stands.{Stands}
+use Rattle.kdb.proofs.Pool.{sound-iff, Sound-stands}
+use Rattle.kdb.proofs.Grow.{key-once, claims, placed-none-iff}
+use Rattle.kdb.proofs.Reading.{Answers, find-rootless, find-answers}
+use Rattle.kdb.proofs.Calls.{done, goes-on, judge-both, judge-past, refusal-keeps}
+use Rattle.kdb.proofs.Answers.{one-located}
+use Rattle.kdb.proofs.Demands.{big, Passed, passed-within, place-placing}
+
+-- no test of these gives refusal n
+abbrev avoids : ℕ → List Test → Bool
+avoids n ts = every (λ t. not (eqb n (t .refusal))) ts
+
+-- the first test that fails gives its refusal
+fails : (ts us : List Test) (t : Test) (b : Buffers) (o : Outcome) → T (every (λ u. u .holds) ts) → (T (t .holds) → ⊥) → judge (ts ++ (t ∷ us)) b o .number ≡ t .refusal
+fails ts us t b o h n = ap (λ x. x .number) (judge-past ts (t ∷ us) b o h) ∙ go (t .holds) n
+  where
+    go : (x : Bool) → (T x → ⊥) → unless x (t .refusal) b (judge us b o) .number ≡ t .refusal
+    go true n = absurd (n tt)
+    go false n = refl
+
+-- a number that neither these tests nor the call gives is not given; one that the tests do not give is the call's
+avoided : (n : ℕ) (us : List Test) (b : Buffers) (o : Outcome) → T (avoids n us) → (o .number ≡ n → ⊥) → judge us b o .number ≡ n → ⊥
+avoided n [] b o a d z = d z
+avoided n (u ∷ us) b o a d z = go (u .holds) (avoided n us b o (and-r (not (eqb n (u .refusal))) _ a) d) z
+  where
+    go : (x : Bool) → (judge us b o .number ≡ n → ⊥) → unless x (u .refusal) b (judge us b o) .number ≡ n → ⊥
+    go true i z = i z
+    go false i z = T-not (eqb n (u .refusal)) (and-l (not (eqb n (u .refusal))) _ a) (of-true _ (eq-eqb n (u .refusal) (sym z)))
+
+all-held : (n : ℕ) (us : List Test) (b : Buffers) (o : Outcome) → T (avoids n us) → judge us b o .number ≡ n → T (every (λ u. u .holds) us)
+all-held n [] b o a z = tt
+all-held n (u ∷ us) b o a z = go (u .holds) (all-held n us b o (and-r (not (eqb n (u .refusal))) _ a)) z
+  where
+    go : (x : Bool) → (judge us b o .number ≡ n → T (every (λ v. v .holds) us)) → unless x (u .refusal) b (judge us b o) .number ≡ n → T (x && every (λ v. v .holds) us)
+    go true i z = i z
+    go false i z = absurd (T-not (eqb n (u .refusal)) (and-l (not (eqb n (u .refusal))) _ a) (of-true _ (eq-eqb n (u .refusal) (sym z))))
+
+-- a refusal of the table is given exactly if its test fails, where those before it hold and nothing later gives its number
+given : (ts us : List Test) (t : Test) (b : Buffers) (o : Outcome) → T (every (λ u. u .holds) ts) → T (avoids (t .refusal) us) → (o .number ≡ t .refusal → ⊥)
+    → (judge (ts ++ (t ∷ us)) b o .number ≡ t .refusal) ↔ (T (t .holds) → ⊥)
+given ts us t b o h a d = (
+  λ z y. avoided (t .refusal) us b o a d (sym (ap (λ x. x .number) (judge-past ts (t ∷ us) b o h ∙ ap (λ x. unless x (t .refusal) b (judge us b o)) (is-true (t .holds) y))) ∙ z),
+  fails ts us t b o h,
+)
+
+-- once its tests hold, no call gives 1 to 5
+core-number : (w : List ℕ) (c : Call) (n : ℕ) → 1 ≤ n → n ≤ 5 → core w c .number ≡ n → ⊥
+core-number w (format k) n a b z = omega arith
+core-number w check n a b z = omega arith
+core-number w (place work p l) n a b z = go (stepped w (record { key = p; loc = l })) z
+  where
+    go : (s : Option State) → placing s w .number ≡ n → ⊥
+    go none z = omega arith
+    go (some s) z = omega arith
+core-number w (remove p) n a b z = go (findWalk L w p .end) z
+  where
+    go : (e : End) → removing e w p .number ≡ n → ⊥
+    go rootless z = omega arith
+    go bad z = omega arith
+    go (absent j) z = omega arith
+    go (here s) z = omega arith
+core-number w (find p) n a b z = go (findWalk L w p .read) (findWalk L w p .end) z
+  where
+    go : (r : List ℕ) (e : End) → finding (ends r e) (lent w (find p)) .number ≡ n → ⊥
+    go r rootless z = omega arith
+    go r bad z = omega arith
+    go r (absent j) z = omega arith
+    go r (here s) z = omega arith
+core-number w (list v answer) n a b z = go (listWalk L w (windowOf (domains w) v)) z
+  where
+    go : (t : Tour) → listing t w answer .number ≡ n → ⊥
+    go t z = by (t .bad) z
+      where
+        by : (m : Bool) → listing (record { read = t .read; bad = m; found = t .found }) w answer .number ≡ n → ⊥
+        by true z = omega arith
+        by false z = omega arith
+
+-- 9 exactly if the steps would claim more pages than are free, once place has passed its tests
+pub nine-iff : (w work p : List ℕ) (l : ℕ) → T (begins w (place work p l))
+    → (outcome w (place work p l) .number ≡ 9)
+    ↔ (length (freeOf (pagesIn L w) (pagesOf (stateOf L w))) < claims (domains w) (regionsPer L (domains w)) (pointsPer L (domains w)) (pagesIn L w) (stateOf L w) (record { key = p; loc = l }))
+nine-iff w work p l h =
+    let q : Rec = record { key = p; loc = l } in
+    let o = goes-on w (place work p l) h in
+    let i = placed-none-iff L (domains w) (pagesIn L w) (stateOf L w) q (place-placing w work p l h) in
+    (λ z. i .0 (short (stepped w q) (sym (ap (λ x. x .number) o) ∙ z)), λ m. ap (λ x. x .number) o ∙ ap (λ s. placing s w .number) (i .1 m))
+  where
+    short : (s : Option State) → placing s w .number ≡ 9 → s ≡ none
+    short none z = refl
+    short (some s) z = absurd (omega arith)
+
+-- Demand 1: what the refusals mean
+module _ (w p : List ℕ) (h : Passed w p) where
+  -- find's walk by the records of a sound pool
+  by-records : (P : End → Type 0) → (tally (keyed p) (recordsOf (stateOf L w)) ≡ 0 → P rootless) → ((j : ℕ) → tally (keyed p) (recordsOf (stateOf L w)) ≡ 0 → P (absent j))
+      → ((x : Spot) → x .rec .key ≡ p → In (x .rec) (recordsOf (stateOf L w)) → P (here x)) → P (findWalk L w p .end)
+  by-records P r a x = go (stateOf L w) (Sound-stands L w (h .well) big) r a x
+    where
+      by-end : (rs : List Rec) (e : End) → Answers rs p e → ((j : ℕ) → tally (keyed p) rs ≡ 0 → P (absent j)) → ((x : Spot) → x .rec .key ≡ p → In (x .rec) rs → P (here x)) → P e
+      by-end rs rootless q a x = absurd q
+      by-end rs bad q a x = absurd q
+      by-end rs (absent j) q a x = a j q
+      by-end rs (here y) q a x = x y (q .0) (q .1)
+
+      go : (s : State) → Stands L w s → (tally (keyed p) (recordsOf s) ≡ 0 → P rootless) → ((j : ℕ) → tally (keyed p) (recordsOf s) ≡ 0 → P (absent j))
+          → ((x : Spot) → x .rec .key ≡ p → In (x .rec) (recordsOf s) → P (here x)) → P (findWalk L w p .end)
+      go none st r a x = subst P (sym (find-rootless L w p st)) (r refl)
+      go (some t) st r a x = by-end (records t) (findWalk L w p .end) (find-answers L w p t st (passed-within w p h)) a x
+
+  counts : (r : Rec) → r .key ≡ p → In r (recordsOf (stateOf L w)) → 1 ≤ tally (keyed p) (recordsOf (stateOf L w))
+  counts r e i = i .counted (keyed p) (rw e (same-refl p))
+
+  present-iff : T (present (findWalk L w p .end)) ↔ (1 ≤ tally (keyed p) (recordsOf (stateOf L w)))
+  present-iff =
+      by-records (λ e. T (present e) ↔ (1 ≤ tally (keyed p) (recordsOf (stateOf L w)))) (λ z. (λ t. absurd t, λ n. absurd (omega arith))) (λ j z. (λ t. absurd t, λ n. absurd (omega arith)))
+      (λ x e i. (λ t. counts (x .rec) e i, λ n. tt))
+
+good-passed : (w p : List ℕ) → Sound L w → T (goodPoint (domains w) p) → Passed w p
+good-passed w p s h = record { long = eqb→eq (length p) (domains w) (and-l (eqb (length p) (domains w)) _ h); ends = and-r (eqb (length p) (domains w)) _ h; well = s }
+
+remove-begins : (w p : List ℕ) → Sound L w → T (goodPoint (domains w) p) → T (begins w (remove p))
+remove-begins w p s h =
+    let i = eqb (length p) (domains w) in
+    and-i (goodLength L w) _ (s .words) (and-i (goodHeader L w) _ (s .header) (and-i i _ (and-l i _ h) (and-i (finite p) _ (and-r i _ h) (and-i (sound L w) true (sound-iff L big w .1 s) tt))))
+
+check-six : (w : List ℕ) → T (goodLength L w) → (outcome w check .number ≡ 6) ↔ (Sound L w → ⊥)
+unfolding outcome
+check-six w t = (
+  λ z s. let e = goes-on w check (and-i (goodLength L w) _ t (and-i (goodHeader L w) _ (s .header) (and-i (sound L w) true (sound-iff L big w .1 s) tt))) in
+      omega (arith, ap (λ o. o .number) e),
+  λ n. go (goodLength L w) (goodHeader L w) (sound L w) t (λ c. n (sound-iff L big w .0 c)),
+)
+  where
+    go : (a b c : Bool) → T a → (T c → ⊥) → judge ((a or 1) ∷ (b or 6) ∷ (c or 6) ∷ []) (lent w check) (core w check) .number ≡ 6
+    go false b c t n = absurd t
+    go true false c t n = refl
+    go true true false t n = refl
+    go true true true t n = absurd (n tt)
+
+-- place's tests up to 7
+place-seven : (w work p : List ℕ) (l : ℕ) → Sound L w → T (goodPoint (domains w) p) → length work ≡ length w
+    → outcome w (place work p l) ≡ unless (not (present (findWalk L w p .end))) 7 (lent w (place work p l)) (core w (place work p l))
+unfolding outcome
+place-seven w work p l s h e =
+    let i = eqb (length p) (domains w) in
+    let j = eqb (length work) (length w) in
+    judge-past
+    ((goodLength L w or 1) ∷ (goodHeader L w or 6) ∷ ((i && j) or 3) ∷ (finite p or 4) ∷ (sound L w or 6) ∷ [])
+    ((not (present (findWalk L w p .end)) or 7) ∷ []) (lent w (place work p l)) (core w (place work p l))
+    (and-i (goodLength L w) _ (s .words) (and-i (goodHeader L w) _ (s .header) (and-i (i && j) _ (and-i i j (and-l i _ h) (of-true j (eq-eqb (length work) (length w) e)))
+    (and-i (finite p) _ (and-r i _ h) (and-i (sound L w) true (sound-iff L big w .1 s) tt)))))
+
+placing-number : (w : List ℕ) (o : Option State) → placing o w .number ≡ 7 → ⊥
+placing-number w none z = omega arith
+placing-number w (some s) z = omega arith
+
+unless-seven : (t : Bool) (b : Buffers) (o : Outcome) → (o .number ≡ 7 → ⊥) → (unless (not t) 7 b o .number ≡ 7) ↔ T t
+unless-seven true b o n = (λ z. tt, λ t. refl)
+unless-seven false b o n = (λ z. absurd (n z), λ t. absurd t)
+
+-- remove's outcome by the records
+module _ (w p : List ℕ) (s : Sound L w) (h : T (goodPoint (domains w) p)) where
+  remove-is : outcome w (remove p) ≡ removing (findWalk L w p .end) w p
+  remove-is = goes-on w (remove p) (remove-begins w p s h)
+
+  remove-eight : (outcome w (remove p) .number ≡ 8) ↔ (tally (keyed p) (recordsOf (stateOf L w)) ≡ 0)
+  remove-eight =
+      subst (λ o. (o .number ≡ 8) ↔ (tally (keyed p) (recordsOf (stateOf L w)) ≡ 0)) (sym remove-is)
+      (by-records w p (good-passed w p s h) (λ e. (removing e w p .number ≡ 8) ↔ (tally (keyed p) (recordsOf (stateOf L w)) ≡ 0)) (λ z. (λ _. z, λ _. refl)) (λ j z. (λ _. z, λ _. refl))
+      (λ x e i. (λ z. absurd (omega arith), λ z. absurd (omega (arith, counts w p (good-passed w p s h) (x .rec) e i)))))
+
+  remove-gone : (l : ℕ) → 1 ≤ tally (λ r. same p (r .key) && eqb l (r .loc)) (recordsOf (stateOf L w)) → (outcome w (remove p) .number ≡ 0) × (outcome w (remove p) .values ≡ l ∷ [])
+  remove-gone l n =
+      let rs = recordsOf (stateOf L w) in
+      let some-keyed : 1 ≤ tally (keyed p) rs = omega (arith, tally-imp (λ r. same p (r .key) && eqb l (r .loc)) (keyed p) (λ r. and-l (same p (r .key)) (eqb l (r .loc))) rs) in
+      let once = key-once L (domains w) (pagesIn L w) (stateOf L w) p (Sound-stands L w s big .formed) in
+      subst (λ o. (o .number ≡ 0) × (o .values ≡ l ∷ [])) (sym remove-is)
+      (by-records w p (good-passed w p s h) (λ e. (removing e w p .number ≡ 0) × (removing e w p .values ≡ l ∷ [])) (λ z. absurd (omega arith)) (λ j z. absurd (omega arith))
+      (λ x e i. (refl, ap (λ m. m ∷ []) (one-located p l (x .rec) rs i e once n))))
+
+-- the number alone decides between place's 0 and 9
+placing-nine : (w : List ℕ) (o : Option State) → (placing o w .number ≡ 9) ↔ (o ≡ none)
+placing-nine w none = (λ z. refl, λ e. refl)
+placing-nine w (some s) = (λ z. absurd (omega arith), λ e. absurd (let z : _≡_ {A = ℕ} 0 1 = cc in omega arith))
+
+placing-zero : (w : List ℕ) (o : Option State) → (placing o w .number ≡ 9 → ⊥) → placing o w .number ≡ 0
+placing-zero w none n = absurd (n refl)
+placing-zero w (some s) n = refl
+
+-- the tables: every call but format has the same four first rows, then rows of its own
+module _ (w : List ℕ) where
+  abbrev later : Call → List Test
+  later (format k) = []
+  later check = (sound L w or 6) ∷ []
+  later (place work p l) = (sound L w or 6) ∷ (not (present (findWalk L w p .end)) or 7) ∷ []
+  later (remove p) = (sound L w or 6) ∷ []
+  later (find p) = []
+  later (list v answer) = (ordered (windowOf (domains w) v) or 5) ∷ []
+
+  abbrev rows : Call → List Test
+  rows c = (goodLength L w or 1) ∷ (goodHeader L w or 6) ∷ (fitting w c or 3) ∷ (finite (endsOf c) or 4) ∷ later c
+
+  by-rows : (c : Call) → T (headed c) → judge (rows c) (lent w c) (core w c) ≡ outcome w c
+  unfolding outcome
+  by-rows (format k) t = absurd t
+  by-rows check t = refl
+  by-rows (place work p l) t = refl
+  by-rows (remove p) t = refl
+  by-rows (find p) t = refl
+  by-rows (list v answer) t = refl
+
+  -- a row among them, told the rows before and after it
+  row : (c : Call) → T (headed c) → (ts us : List Test) (t : Test) → ts ++ (t ∷ us) ≡ rows c → T (every (λ u. u .holds) ts) → T (avoids (t .refusal) us)
+      → (core w c .number ≡ t .refusal → ⊥) → (outcome w c .number ≡ t .refusal) ↔ (T (t .holds) → ⊥)
+  row c y ts us t e h a d =
+      subst (λ o. (o .number ≡ t .refusal) ↔ (T (t .holds) → ⊥)) (ap (λ l. judge l (lent w c) (core w c)) e ∙ by-rows c y) (given ts us t (lent w c) (core w c) h a d)
+
+  -- none of the later rows gives 1, 3 or 4
+  later-avoids : (c : Call) → T (avoids 1 (later c)) × T (avoids 3 (later c)) × T (avoids 4 (later c))
+  later-avoids (format k) = (tt, tt, tt)
+  later-avoids check = (tt, tt, tt)
+  later-avoids (place work p l) = (tt, tt, tt)
+  later-avoids (remove p) = (tt, tt, tt)
+  later-avoids (find p) = (tt, tt, tt)
+  later-avoids (list v answer) = (tt, tt, tt)
+
+  headed-one : (c : Call) → T (headed c) → (outcome w c .number ≡ 1) ↔ (T (goodLength L w) → ⊥)
+  headed-one c y = row c y [] ((goodHeader L w or 6) ∷ (fitting w c or 3) ∷ (finite (endsOf c) or 4) ∷ later c) (goodLength L w or 1) refl tt (later-avoids c .0) (core-number w c 1 (omega arith) (omega arith))
+
+  one : (c : Call) → (outcome w c .number ≡ 1) ↔ (T (goodLength L w) → ⊥)
+  unfolding outcome
+  one (format k) = given [] ((goodDomains k or 2) ∷ []) (goodLength L w or 1) (lent w (format k)) (core w (format k)) tt tt (core-number w (format k) 1 (omega arith) (omega arith))
+  one check = headed-one check tt
+  one (place work p l) = headed-one (place work p l) tt
+  one (remove p) = headed-one (remove p) tt
+  one (find p) = headed-one (find p) tt
+  one (list v answer) = headed-one (list v answer) tt
+
+  two : (k : ℕ) → T (goodLength L w) → (outcome w (format k) .number ≡ 2) ↔ (T (goodDomains k) → ⊥)
+  unfolding outcome
+  two k h = given ((goodLength L w or 1) ∷ []) [] (goodDomains k or 2) (lent w (format k)) (core w (format k)) (and-i (goodLength L w) true h tt) tt (core-number w (format k) 2 (omega arith) (omega arith))
+
+  header : (c : Call) → T (headed c) → T (goodLength L w) → (T (goodHeader L w) → ⊥) → outcome w c .number ≡ 6
+  header c y h n =
+      sym (ap (λ o. o .number) (by-rows c y))
+      ∙ fails ((goodLength L w or 1) ∷ []) ((fitting w c or 3) ∷ (finite (endsOf c) or 4) ∷ later c) (goodHeader L w or 6) (lent w c) (core w c) (and-i (goodLength L w) true h tt) n
+
+  three : (c : Call) → T (headed c) → Headed w → (outcome w c .number ≡ 3) ↔ (T (fitting w c) → ⊥)
+  three c y h =
+      row c y ((goodLength L w or 1) ∷ (goodHeader L w or 6) ∷ []) ((finite (endsOf c) or 4) ∷ later c) (fitting w c or 3) refl
+      (and-i (goodLength L w) _ (h .long) (and-i (goodHeader L w) true (h .header) tt)) (later-avoids c .1) (core-number w c 3 (omega arith) (omega arith))
+
+  four : (c : Call) → T (headed c) → Headed w → T (fitting w c) → (outcome w c .number ≡ 4) ↔ (T (finite (endsOf c)) → ⊥)
+  four c y h f =
+      row c y ((goodLength L w or 1) ∷ (goodHeader L w or 6) ∷ (fitting w c or 3) ∷ []) (later c) (finite (endsOf c) or 4) refl
+      (and-i (goodLength L w) _ (h .long) (and-i (goodHeader L w) _ (h .header) (and-i (fitting w c) true f tt))) (later-avoids c .2) (core-number w c 4 (omega arith) (omega arith))
+
+  -- the four first rows hold
+  four-held : (c : Call) → Taken w c → T (every (λ u. u .holds) ((goodLength L w or 1) ∷ (goodHeader L w or 6) ∷ (fitting w c or 3) ∷ (finite (endsOf c) or 4) ∷ []))
+  four-held c h =
+      and-i (goodLength L w) _ (h .headed .long) (and-i (goodHeader L w) _ (h .headed .header) (and-i (fitting w c) _ (h .fits) (and-i (finite (endsOf c)) true (h .ends) tt)))
+
+  five : (v answer : List ℕ) → Taken w (list v answer) → (outcome w (list v answer) .number ≡ 5) ↔ (T (ordered (windowOf (domains w) v)) → ⊥)
+  five v answer h =
+      let c = list v answer in
+      row c tt ((goodLength L w or 1) ∷ (goodHeader L w or 6) ∷ (fitting w c or 3) ∷ (finite (endsOf c) or 4) ∷ []) [] (ordered (windowOf (domains w) v) or 5) refl
+      (four-held c h) tt (core-number w c 5 (omega arith) (omega arith))
+
+  -- "not sound" by the test and by the sentences
+  unsound : (n : ℕ) → (n ≡ 6) ↔ (T (sound L w) → ⊥) → (n ≡ 6) ↔ (Sound L w → ⊥)
+  unsound n i = (λ z s. i .0 z (sound-iff L big w .1 s), λ m. i .1 (λ t. m (sound-iff L big w .0 t)))
+
+  six-place : (work p : List ℕ) (l : ℕ) → Taken w (place work p l) → (outcome w (place work p l) .number ≡ 6) ↔ (Sound L w → ⊥)
+  six-place work p l h =
+      let c = place work p l in
+      unsound (outcome w c .number)
+      (row c tt ((goodLength L w or 1) ∷ (goodHeader L w or 6) ∷ (fitting w c or 3) ∷ (finite (endsOf c) or 4) ∷ []) ((not (present (findWalk L w p .end)) or 7) ∷ []) (sound L w or 6) refl
+      (four-held c h) tt (go (stepped w (record { key = p; loc = l }))))
+    where
+      go : (s : Option State) → placing s w .number ≡ 6 → ⊥
+      go none z = omega arith
+      go (some s) z = omega arith
+
+  -- remove: on a sound pool its walk meets no bad page
+  six-remove : (p : List ℕ) → Taken w (remove p) → (outcome w (remove p) .number ≡ 6) ↔ (Sound L w → ⊥)
+  six-remove p h = (
+    λ z s. by-records w p (good-passed w p s g) (λ e. removing e w p .number ≡ 6 → ⊥) (λ _ y. omega arith) (λ j _ y. omega arith) (λ x _ _ y. omega arith)
+        (sym (ap (λ o. o .number) (remove-is w p s g)) ∙ z),
+    λ n. sym (ap (λ o. o .number) (by-rows (remove p) tt))
+        ∙ fails ((goodLength L w or 1) ∷ (goodHeader L w or 6) ∷ (fitting w (remove p) or 3) ∷ (finite p or 4) ∷ []) [] (sound L w or 6) (lent w (remove p)) (core w (remove p))
+        (four-held (remove p) h) (λ t. n (sound-iff L big w .0 t)),
+  )
+    where
+      g : T (goodPoint (domains w) p)
+      g = and-i (eqb (length p) (domains w)) _ (h .fits) (h .ends)
+
+  -- a new point: place does its steps
+  new-placing : (work p : List ℕ) (l : ℕ) → New w work p → outcome w (place work p l) ≡ placing (stepped w (record { key = p; loc = l })) w
+  new-placing work p l n =
+      place-seven w work p l (n .sound) (n .point) (n .long)
+      ∙ go (present (findWalk L w p .end)) (λ t. let i = present-iff w p (good-passed w p (n .sound) (n .point)) .0 t in omega (arith, n .absent))
+    where
+      go : (x : Bool) → (T x → ⊥) → unless (not x) 7 (lent w (place work p l)) (core w (place work p l)) ≡ core w (place work p l)
+      go true a = absurd (a tt)
+      go false a = refl
+
+pub demand1 : (w : List ℕ) → Demand1 w
+demand1 w =
+    record {
+      one = one w;
+      two = two w;
+      formats = λ k h d. ap (λ o. o .number) (goes-on w (format k) (and-i (goodLength L w) _ h (and-i (goodDomains k) true d tt)));
+      header = header w;
+      three = three w;
+      four = four w;
+      five = five w;
+      six = check-six w;
+      checks = λ s. ap (λ o. o .number) (goes-on w check (and-i (goodLength L w) _ (s .words) (and-i (goodHeader L w) _ (s .header) (and-i (sound L w) true (sound-iff L big w .1 s) tt))));
+      sixPlace = six-place w;
+      sixRemove = six-remove w;
+      seven = λ work p l s h e.
+          let u = unless-seven (present (findWalk L w p .end)) (lent w (place work p l)) (core w (place work p l)) (placing-number w (stepped w (record { key = p; loc = l }))) in
+          let q = place-seven w work p l s h e in
+          let i = present-iff w p (good-passed w p s h) in
+          (λ z. i .0 (u .0 (sym (ap (λ o. o .number) q) ∙ z)), λ n. ap (λ o. o .number) q ∙ u .1 (i .1 n));
+      eight = λ p s h. remove-eight w p s h;
+      gone = λ p l s h n. remove-gone w p s h l n;
+      nine = λ work p l n.
+          let e = ap (λ o. o .number) (new-placing w work p l n) in
+          let i = placing-nine w (stepped w (record { key = p; loc = l })) in
+          (λ z. i .0 (sym e ∙ z), λ s. e ∙ i .1 s);
+      places = λ work p l n m.
+          let e = ap (λ o. o .number) (new-placing w work p l n) in e ∙ placing-zero w (stepped w (record { key = p; loc = l })) (λ z. m (e ∙ z));
+    }
+
+-- the buffers after a call
+placing-work : (w work : List ℕ) (o : Option State) → (placing o w .number ≡ 0 → ⊥) → (placing o w .number ≡ 9 → ⊥) → placing o w .after .work ≡ work
+placing-work w work none a b = absurd (b refl)
+placing-work w work (some s) a b = absurd (a refl)
+
+placing-copy : (w : List ℕ) (o : Option State) → placing o w .after .work ≡ w
+placing-copy w none = refl
+placing-copy w (some s) = refl
+
+-- a test that fails leaves the buffers as they were
+refused-keeps : (ts : List Test) (b : Buffers) (o : Outcome) → every (λ t. t .holds) ts ≡ false → judge ts b o .after ≡ b
+refused-keeps [] b o e = absurd (let z : _≡_ {A = ℕ} 0 1 = ap (λ x. cond x 0 1) e in omega arith)
+refused-keeps (t ∷ ts) b o e = go (t .holds) e (refused-keeps ts b o)
+  where
+    go : (x : Bool) → x && every (λ u. u .holds) ts ≡ false → (every (λ u. u .holds) ts ≡ false → judge ts b o .after ≡ b) → unless x (t .refusal) b (judge ts b o) .after ≡ b
+    go true e i = i e
+    go false e i = refl
+
+listing-bad : (t : Tour) (w answer : List ℕ) → (listing t w answer .number ≡ 0 → ⊥) → listing t w answer .after .answer ≡ replicate (length answer) 0
+listing-bad t w answer n = go (t .bad) n
+  where
+    go : (m : Bool) → (listing (record { read = t .read; bad = m; found = t .found }) w answer .number ≡ 0 → ⊥)
+        → listing (record { read = t .read; bad = m; found = t .found }) w answer .after .answer ≡ replicate (length answer) 0
+    go true n = refl
+    go false n = absurd (n refl)
+
+pub leaves : (w : List ℕ) → Leaves w
+unfolding outcome
+leaves w =
+    record {
+      pool = λ c n. refusal-keeps w c .kept n;
+      done = λ work p l z. ap (λ o. o .after .work) (done w (place work p l) z .1) ∙ placing-copy w (stepped w (record { key = p; loc = l }));
+      short = λ work p l z.
+          let c = place work p l in
+          ap (λ o. o .after .work) (goes-on w c (all-held 9 (tests w c) (lent w c) (core w c) tt z)) ∙ placing-copy w (stepped w (record { key = p; loc = l }));
+      work = λ work p l a b.
+          let c = place work p l in
+          judge-both (λ o. (o .number ≡ 0 → ⊥) → (o .number ≡ 9 → ⊥) → o .after .work ≡ work) (tests w c) (lent w c) (core w c) (λ n a b. refl)
+          (placing-work w work (stepped w (record { key = p; loc = l }))) a b;
+      early = λ v answer e. ap (λ b. b .answer) (refused-keeps (tests w (list v answer)) (lent w (list v answer)) (core w (list v answer)) e);
+      bad = λ v answer h n.
+          let e = goes-on w (list v answer) h in
+          ap (λ o. o .after .answer) e ∙ listing-bad (listWalk L w (windowOf (domains w) v)) w answer (λ z. n (ap (λ o. o .number) e ∙ z));
+    }
