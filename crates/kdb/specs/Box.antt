@@ -19,7 +19,7 @@ Box = List Side
 abbrev pub Key : Type 0
 Key = List ℕ
 
--- the sides with these lower ends and these upper ends
+-- the sides with these lower ends and these upper ends, as many as there are of both
 abbrev pub sides : List ℕ → List ℕ → Box
 sides [] us = []
 sides (l ∷ ls) [] = []

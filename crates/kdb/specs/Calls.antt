@@ -60,7 +60,7 @@ gives vs b = record { number = 0; values = vs; after = b }
 abbrev pub refuses : ℕ → Buffers → Outcome
 refuses n b = record { number = n; values = []; after = b }
 
--- a test, or the number of the refusal that is given unless it holds
+-- a test, with the number of the refusal that is given unless it holds
 pub record Test : Type 0 where
   pub holds : Bool
   pub refusal : ℕ
@@ -174,7 +174,7 @@ tests w (list v answer) =
     ∷ (ordered (windowOf (domains w) v) or 5)
     ∷ []
 
--- what a call does once its tests hold: place may still give 9, remove and find 8, find and list 6
+-- what a call does once its tests hold: place may still give 9, remove and find 8, find and list 6 (remove's walk never meets a bad page: its pool is sound)
 abbrev pub core : List ℕ → Call → Outcome
 core w (format k) = gives [] (record { pool = formatted w k; work = []; answer = [] })
 core w check = gives [] (lent w check)

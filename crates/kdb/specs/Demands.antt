@@ -151,13 +151,17 @@ pub record Demand2 (w : List ℕ) (cs : List Call) : Type 0 where
   pub lists : (v slots : List ℕ) → T (goodWindow (domains (run w cs)) v) → ListsExactly (run w cs) (liveAfter w cs) v slots
   pub finds : (p : List ℕ) → T (goodPoint (domains (run w cs)) p) → FindsExactly (run w cs) (liveAfter w cs) p
 
--- the tree is built by Robinson's steps: a format leaves no tree, and an accepted place or remove takes the state to the step's state and the pool to its printed form
+-- the tree is built by Robinson's steps: a format leaves no tree, and an accepted place or remove takes the state to the step's state and
+-- the pool to its printed form
 pub record ByTheSteps (w : List ℕ) : Type 0 where
   pub formats : (k : ℕ) → outcome w (format k) .number ≡ 0 → stateOf L (outcome w (format k) .after .pool) ≡ none
   pub places : (work p : List ℕ) (l : ℕ) → outcome w (place work p l) .number ≡ 0
-      → (s : State) × (stepped w (record { key = p; loc = l }) ≡ some s) × (outcome w (place work p l) .after .pool ≡ printed L (domains w) (pagesIn L w) s) × (stateOf L (outcome w (place work p l) .after .pool) ≡ s)
+      → (s : State) × (stepped w (record { key = p; loc = l }) ≡ some s)
+      × (outcome w (place work p l) .after .pool ≡ printed L (domains w) (pagesIn L w) s)
+      × (stateOf L (outcome w (place work p l) .after .pool) ≡ s)
   pub removes : (p : List ℕ) → outcome w (remove p) .number ≡ 0
-      → (outcome w (remove p) .after .pool ≡ printed L (domains w) (pagesIn L w) (removed (stateOf L w) p)) × (stateOf L (outcome w (remove p) .after .pool) ≡ removed (stateOf L w) p)
+      → (outcome w (remove p) .after .pool ≡ printed L (domains w) (pagesIn L w) (removed (stateOf L w) p))
+      × (stateOf L (outcome w (remove p) .after .pool) ≡ removed (stateOf L w) p)
 
 -- the region, where there is one, shares a point with the window: by a point, and as a test
 abbrev pub Shares : Box → Option Box → Type 0

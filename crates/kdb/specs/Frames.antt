@@ -34,6 +34,7 @@ wordsOf (a ∷ b ∷ []) = none
 wordsOf (a ∷ b ∷ c ∷ []) = none
 wordsOf (a ∷ b ∷ c ∷ d ∷ bs) = andThen (wordsOf bs) (λ ws. some ((16777216 * a + 65536 * b + 256 * c + d) ∷ ws))
 
+-- the digit of a value below 16, upper case
 abbrev pub digitOf : ℕ → ℕ
 digitOf v = cond (ltb v 10) (v + 48) (v + 55)
 
@@ -65,6 +66,7 @@ placeOf (x ∷ ws) = call (λ work. place work (take (length ws) (x ∷ ws)) (ge
 abbrev pub slots : List ℕ
 slots = replicate 64 0
 
+-- a frame of words; bytes that are no words are no frame
 abbrev pub withWords : (List ℕ → Frame) → Option (List ℕ) → Frame
 withWords f none = unknown
 withWords f (some ws) = f ws
@@ -79,6 +81,7 @@ frameOf first bs =
     (cond (eqb first 4) (withWords (λ ws. call (λ work. list ws slots)) (wordsOf bs))
     unknown))))
 
+-- a frame has a first byte
 abbrev pub framed : Option (List ℕ) → Frame
 framed none = unknown
 framed (some []) = unknown
@@ -107,6 +110,7 @@ refusal w = record { pool = w; text = 70 ∷ 70 ∷ 10 ∷ [] }
 abbrev pub renewed : List ℕ → Outcome → Reply
 renewed w o = record { pool = cond (eqb (o .number) 0) (o .after .pool) w; text = answerText o }
 
+-- any other call leaves its pool
 abbrev pub answered : Outcome → Reply
 answered o = record { pool = o .after .pool; text = answerText o }
 

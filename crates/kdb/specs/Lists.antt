@@ -5,6 +5,7 @@ use mathlib.Core.Option.{Option, none, some}
 use Prim.Native.Nat.{ℕ, zero, suc, _+_}
 use lib.Dec.{eqb}
 
+-- 1 for true, 0 for false
 abbrev pub bit : Bool → ℕ
 bit true = 1
 bit false = 0
@@ -19,6 +20,7 @@ abbrev pub tally {ℓ} : {A : Type ℓ} → (A → Bool) → List A → ℕ
 tally f [] = 0
 tally f (a ∷ l) = bit (f a) + tally f l
 
+-- every element passes the test; some element does
 abbrev pub every {ℓ} : {A : Type ℓ} → (A → Bool) → List A → Bool
 every f [] = true
 every f (a ∷ l) = f a && every f l
@@ -50,7 +52,7 @@ abbrev pub upFrom : ℕ → ℕ → List ℕ
 upFrom zero c = []
 upFrom (suc n) c = c ∷ upFrom n (suc c)
 
--- n words: those given, then zeros
+-- n words: those given, then zeros; what is given past n is left out
 abbrev pub pad : ℕ → List ℕ → List ℕ
 pad zero ws = []
 pad (suc n) [] = 0 ∷ pad n []
@@ -63,6 +65,7 @@ same [] (b ∷ m) = false
 same (a ∷ l) [] = false
 same (a ∷ l) (b ∷ m) = eqb a b && same l m
 
+-- the next step, where there is something to go on with
 abbrev pub andThen {ℓ κ} : {A : Type ℓ} {B : Type κ} → Option A → (A → Option B) → Option B
 andThen none k = none
 andThen (some a) k = k a

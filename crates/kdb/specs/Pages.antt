@@ -1,6 +1,6 @@
 -- The layout of a pool's pages: document 01, "Pool layout". A page is free, or a point page with its splitting domain and records, or a
 -- region page with its splitting domain and entries; `printPage` gives its words and `readPage` reads them back. L is the words of a
--- page and k the number of domains. Nothing outside this file knows where a word of a page stands.
+-- page and k the number of domains. Nothing outside this file knows where a word of a page but the header stands.
 use mathlib.Core.Bool.{Bool, true, false, cond}
 use mathlib.Core.List.{List, [], _∷_, _++_, map}
 use Prim.Native.Nat.{ℕ, zero, suc, _+_, _-_, _*_, _/_}

@@ -77,6 +77,7 @@ abbrev pub joinF : Forest → Forest → Forest
 joinF fnil g = g
 joinF (fcons b t f) g = fcons b t (joinF f g)
 
+-- a page that was split, unless a page was wanting
 abbrev pub parted : ℕ → ℕ → Option Two → Up
 parted d x none = failed
 parted d x (some h) = parts d x h
@@ -87,6 +88,7 @@ enter b failed f = failedF
 enter b (fits t free) f = kept (fcons b t f) free
 enter b (parts d x h) f = wider (fcons (leftPart d x b) (h .lt) (joinF f (fcons (rightPart d x b) (h .rt) fnil))) (h .free)
 
+-- an entry that the point passed by stays before what the others become
 abbrev pub behind : Box → Tree → UpF → UpF
 behind b t failedF = failedF
 behind b t (kept f free) = kept (fcons b t f) free
@@ -122,6 +124,7 @@ abbrev pub newRoot : ℕ → ℕ → ℕ → Two → List ℕ → Option State
 newRoot k d x h [] = none
 newRoot k d x h (r ∷ free) = some (some (node r 0 (fcons (leftPart d x (whole k)) (h .lt) (fcons (rightPart d x (whole k)) (h .rt) fnil))))
 
+-- what the root became: wanting a page, one page, or two under a new root
 abbrev pub topped : ℕ → Up → Option State
 topped k failed = none
 topped k (fits t free) = some (some t)

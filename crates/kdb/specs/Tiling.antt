@@ -1,5 +1,6 @@
 -- Regions that are disjoint, not empty and together are a region: Robinson's property 3 and document 01's sound pool. `Tiles` is in
--- the document's words, over sets of points; `Counted` says the same by counting; `tiles` is a test of it for every arrangement.
+-- the document's words, over sets of points; `Counted` says the same by counting; `tiles` is a test of it for every arrangement. Here and in
+-- the files that follow a capital is a statement and the same name in small letters its test; theorems say that they agree.
 use mathlib.Core.Bool.{Bool, true, false, _&&_, not}
 use mathlib.Core.List.{List, [], _∷_}
 use mathlib.Core.Path.{_≡_}

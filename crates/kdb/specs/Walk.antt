@@ -84,6 +84,7 @@ pub record Search : Type 0 where
   pub read : List ℕ
   pub end : End
 
+-- a search that read these pages and ended so; page j read before it
 abbrev pub ends : List ℕ → End → Search
 ends read end = record { read = read; end = end }
 
