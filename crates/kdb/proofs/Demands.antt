@@ -4,37 +4,35 @@ use mathlib.Core.Bool.{Bool, true, false, _&&_, not, cond}
 use mathlib.Core.List.{List, [], _∷_, _++_, map}
 use mathlib.Core.Option.{Option, none, some}
 use mathlib.Core.Path.{_≡_, refl, sym, ap, ap₂, _∙_, subst}
-use Prim.Native.Nat.{ℕ, zero, suc, _+_, _≤_, _<_}
+use Prim.Native.Nat.{ℕ, zero, suc, _+_, _≤_}
 use native.Mathlib.Omega.{arith}
 use lib.Dec.{T, eqb, eqb→eq, T-not}
 use lib.ListN.{length, getD}
 use mathlib.Core.Logic.{_↔_}
-use borrow.Author.Tests.{eq-eqb}
 use Rattle.kdb.specs.Lists.{bit, tally, same, many}
 use Rattle.kdb.specs.Box.{Key, whole, within}
-use Rattle.kdb.specs.Tree.{Rec, State, Tree, records, recordsOf, pagesOf}
-use Rattle.kdb.specs.Steps.{removed, freeOf}
-use Rattle.kdb.specs.Pages.{regionsPer, pointsPer}
+use Rattle.kdb.specs.Tree.{Rec, State, Tree, records, recordsOf}
+use Rattle.kdb.specs.Steps.{removed}
 use Rattle.kdb.specs.Shape.{WellFormed}
 use Rattle.kdb.specs.Pool.{domains, pagesIn, goodLength, goodHeader, Sound, ownRegion}
 use Rattle.kdb.specs.Print.{printed, stateOf, sound}
 use Rattle.kdb.specs.Walk.{Spot, End, rootless, bad, absent, here, findWalk, listWalk}
 use Rattle.kdb.specs.Calls.{L, Call, format, check, place, remove, find, list, Outcome, goodDomains, finite, present, placing, removing, stepped, outcome, windowOf, walkOf, begins, Promise}
 use Rattle.kdb.specs.History.{answerOf, run, answers, change, changed, live, Keeps}
-use Rattle.kdb.specs.Demands.{SameRecords, keyed, inside, liveAfter, Demand2, ByTheSteps, goodWindow, Shares, Demand3, Bounded, goodPoint}
+use Rattle.kdb.specs.Demands.{SameRecords, keyed, inside, liveAfter, Demand2, ByTheSteps, goodWindow, Shares, Demand3, Bounded}
 use Rattle.kdb.proofs.Walk.{walk-bound, walk-pages, walk-silent, list-returns, find-returns}
-use Rattle.kdb.proofs.Lists.{and-l, and-r, and-i, bool, tally-append, to-bit, no-bit, same-refl, In, is-true, of-true, tally-imp}
+use Rattle.kdb.proofs.Lists.{and-l, and-r, and-i, bool, tally-append, to-bit, no-bit, same-refl, In, is-true}
 use Rattle.kdb.proofs.Stands.{Stands}
 use Rattle.kdb.proofs.Views.{finite-whole}
 use Rattle.kdb.proofs.Print.{read-state}
 use Rattle.kdb.proofs.Pool.{print-sound, sound-iff, Sound-stands}
 use Rattle.kdb.proofs.Format.{formatted-printed, none-formed}
-use Rattle.kdb.proofs.Grow.{roomy-32, placed-formed, removed-formed, key-once, Placing, Placed, claims, placed-none-iff}
+use Rattle.kdb.proofs.Grow.{roomy-32, placed-formed, removed-formed, key-once, Placing, Placed}
 use Rattle.kdb.proofs.Reading.{Answers, find-rootless, find-answers, list-reads, list-once, list-count, find-reads}
 use Rattle.kdb.proofs.Windows.{good-meets, point-good, point-reads, point-path}
-use Rattle.kdb.proofs.Calls.{done, refusal-keeps, check-still, find-still, list-still, goes-on, judge-past}
+use Rattle.kdb.proofs.Calls.{done, refusal-keeps, check-still, find-still, list-still}
 use Rattle.kdb.proofs.History.{without-tally, changed-same, keeps-run}
-use Rattle.kdb.proofs.Answers.{list-begins, find-begins, list-answers, find-finds, one-located}
+use Rattle.kdb.proofs.Answers.{list-begins, find-begins, list-answers, find-finds}
 
 pub big : 5 ≤ L
 big = omega arith

@@ -500,7 +500,7 @@ abbrev pub after : ℕ → ℕ → ℕ → ℕ → State → Rec → Tree
 after k R P N none q = leaf (getD (freeOf N []) 0 0) 0 (q ∷ [])
 after k R P N (some t) q = atTop k (grown k R P t q (freeOf N (pages t))) (freeOf N (pages t))
 
-topped-enough : (k : ℕ) (o : Out) (free : List ℕ) → claimed o ≤ length free → topped k (shown o free) ≡ some (some (atTop k o free))
+pub topped-enough : (k : ℕ) (o : Out) (free : List ℕ) → claimed o ≤ length free → topped k (shown o free) ≡ some (some (atTop k o free))
 topped-enough k (one t u) free h = ap (topped k) (shown-enough (one t u) free h)
 topped-enough k (two d x l r u) free h =
     ap (topped k) (shown-enough (two d x l r u) free (omega arith)) ∙ ap (newRoot k d x (record { lt = l; rt = r; free = drop u free })) (drop-cons free u 0 h)
@@ -513,7 +513,7 @@ topped-short k (two d x l r u) free h =
     ∙ ap (newRoot k d x (record { lt = l; rt = r; free = drop u free })) (drop-of-length-le free {i = u} (omega arith)))
     (λ c. ap (topped k) (shown-short (two d x l r u) free (nleb→lt u (length free) c)))
 
-first-enough : (q : Rec) (free : List ℕ) → 1 ≤ length free → first q free ≡ some (some (leaf (getD free 0 0) 0 (q ∷ [])))
+pub first-enough : (q : Rec) (free : List ℕ) → 1 ≤ length free → first q free ≡ some (some (leaf (getD free 0 0) 0 (q ∷ [])))
 first-enough q [] h = absurd (omega arith)
 first-enough q (r ∷ free) h = refl
 
@@ -572,7 +572,7 @@ pub record Placing (L k N : ℕ) (s : State) (q : Rec) : Type 0 where
   pub new : tally (λ r. same (q .key) (r .key)) (recordsOf s) ≡ 0
 
 module _ (L k N : ℕ) where
-  placing-grown : (t : Tree) (q : Rec) (free : List ℕ) → Placing L k N (some t) q → Grown k (regionsPer L k) (pointsPer L k) t q free (levels t - 1) (whole k)
+  pub placing-grown : (t : Tree) (q : Rec) (free : List ℕ) → Placing L k N (some t) q → Grown k (regionsPer L k) (pointsPer L k) t q free (levels t - 1) (whole k)
   placing-grown t q free p =
       grow-ok k (regionsPer L k) (pointsPer L k) (p .roomy .points) (omega (arith, p .roomy .regions)) t (levels t - 1) q free (whole k) (p .formed .shape) (whole-length k) (p .inside) (p .new)
 

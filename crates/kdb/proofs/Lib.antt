@@ -5,6 +5,7 @@ pub mod Cut
 pub mod Split
 pub mod Fair
 pub mod Grow
+pub mod Wanting
 pub mod Stands
 pub mod Calls
 pub mod Pages

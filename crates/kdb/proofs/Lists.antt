@@ -743,3 +743,7 @@ take-pad zero n ws h = refl
 take-pad (suc m) zero ws h = absurd (omega arith)
 take-pad (suc m) (suc n) [] h = ap (λ l. 0 ∷ l) (take-pad m n [] (omega arith))
 take-pad (suc m) (suc n) (a ∷ ws) h = ap (λ l. a ∷ l) (take-pad m n ws (omega arith))
+
+pub length-upFrom : (n c : ℕ) → length (upFrom n c) ≡ n
+length-upFrom zero c = refl
+length-upFrom (suc n) c = ap suc (length-upFrom n (suc c))

@@ -4,26 +4,26 @@ use mathlib.Core.Bool.{Bool, true, false, _&&_, not, cond}
 use mathlib.Core.List.{List, [], _∷_, _++_}
 use mathlib.Core.Option.{Option, none, some}
 use mathlib.Core.Path.{_≡_, refl, sym, ap, _∙_, subst}
-use Prim.Native.Nat.{ℕ, zero, suc, _≤_, _<_}
+use Prim.Native.Nat.{ℕ, _≤_, _<_}
 use native.Mathlib.Omega.{arith}
 use lib.Dec.{T, eqb, eqb→eq, T-not}
-use lib.ListN.{length, take, drop, replicate}
+use lib.ListN.{length, replicate, length-append}
 use mathlib.Core.Logic.{_↔_}
 use borrow.Author.Tests.{eq-eqb}
-use Rattle.kdb.specs.Lists.{every, tally, same}
-use Rattle.kdb.specs.Box.{whole, within}
-use Rattle.kdb.specs.Tree.{Rec, State, Tree, records, recordsOf, pagesOf}
+use Rattle.kdb.specs.Lists.{every, tally, upFrom, same}
+use Rattle.kdb.specs.Tree.{Rec, State, records, recordsOf, pagesOf}
 use Rattle.kdb.specs.Steps.{freeOf}
 use Rattle.kdb.specs.Pages.{regionsPer, pointsPer}
 use Rattle.kdb.specs.Pool.{domains, pagesIn, goodLength, goodHeader, Sound}
 use Rattle.kdb.specs.Print.{stateOf, sound}
-use Rattle.kdb.specs.Walk.{Spot, Tour, End, rootless, bad, absent, here, Search, ends, findWalk, listWalk}
+use Rattle.kdb.specs.Walk.{Spot, Tour, End, rootless, bad, absent, here, ends, findWalk, listWalk}
 use Rattle.kdb.specs.Calls.{L, Call, format, check, place, remove, find, list, Outcome, Buffers, Test, goodDomains, finite, ordered, windowOf, present, placing, removing, finding, listing, stepped, outcome, begins, unless, judge, _or_, lent, tests, core}
 use Rattle.kdb.specs.Demands.{keyed, goodPoint, fitting, endsOf, headed, Headed, Taken, New, Demand1, Leaves}
-use Rattle.kdb.proofs.Lists.{and-l, and-r, and-i, same-refl, In, is-true, of-true, bool, tally-imp}
+use Rattle.kdb.proofs.Lists.{and-l, and-r, and-i, same-refl, In, is-true, of-true, tally-imp, length-upFrom}
 use Rattle.kdb.proofs.Stands.{Stands}
 use Rattle.kdb.proofs.Pool.{sound-iff, Sound-stands}
-use Rattle.kdb.proofs.Grow.{key-once, claims, placed-none-iff}
+use Rattle.kdb.proofs.Grow.{roomy-32, key-once, Placing, claims, placed-none-iff}
+use Rattle.kdb.proofs.Wanting.{ample, wanting}
 use Rattle.kdb.proofs.Reading.{Answers, find-rootless, find-answers}
 use Rattle.kdb.proofs.Calls.{done, goes-on, judge-both, judge-past, refusal-keeps}
 use Rattle.kdb.proofs.Answers.{one-located}
@@ -327,6 +327,11 @@ module _ (w : List ℕ) where
       go true a = absurd (a tt)
       go false a = refl
 
+  new-placed : (work p : List ℕ) (l : ℕ) → New w work p → Placing L (domains w) (pagesIn L w) (stateOf L w) (record { key = p; loc = l })
+  new-placed work p l n =
+      let f = Sound-stands L w (n .sound) big .formed in
+      record { roomy = roomy-32 (domains w) (f .domains .0) (f .domains .1); formed = f; inside = passed-within w p (good-passed w p (n .sound) (n .point)); new = n .absent }
+
 pub demand1 : (w : List ℕ) → Demand1 w
 demand1 w =
     record {
@@ -354,6 +359,12 @@ demand1 w =
           (λ z. i .0 (sym e ∙ z), λ s. e ∙ i .1 s);
       places = λ work p l n m.
           let e = ap (λ o. o .number) (new-placing w work p l n) in e ∙ placing-zero w (stepped w (record { key = p; loc = l })) (λ z. m (e ∙ z));
+      wanting = λ work p l n.
+          let m = ample (stateOf L w) in
+          let free = freeOf (pagesIn L w) (pagesOf (stateOf L w)) in
+          let r = wanting L (domains w) (pagesIn L w) (stateOf L w) (record { key = p; loc = l }) (free ++ upFrom m (pagesIn L w)) (new-placed w work p l n)
+          (omega (arith, length-append free (upFrom m (pagesIn L w)), length-upFrom m (pagesIn L w))) in
+          (m, r .0, r .1);
     }
 
 -- the buffers after a call

@@ -9,11 +9,11 @@ use mathlib.Core.Path.{_≡_}
 use Prim.Native.Nat.{ℕ, _*_, _-_, _≤_, _<_}
 use lib.Dec.{T, eqb}
 use lib.ListN.{length, take, drop, getD, replicate}
-use Rattle.kdb.specs.Lists.{only, tally, many, same}
+use Rattle.kdb.specs.Lists.{only, tally, many, upFrom, same}
 use Rattle.kdb.specs.Box.{Box, Key, within, inWindow, meets}
-use Rattle.kdb.specs.Tree.{Rec, State, recordsOf}
-use Rattle.kdb.specs.Steps.{removed}
-use Rattle.kdb.specs.Pages.{page}
+use Rattle.kdb.specs.Tree.{Rec, State, recordsOf, pagesOf}
+use Rattle.kdb.specs.Steps.{freeOf, placedOn, removed}
+use Rattle.kdb.specs.Pages.{page, regionsPer, pointsPer}
 use Rattle.kdb.specs.Pool.{domains, levelsAt, pagesIn, goodLength, goodHeader, numbers, Sound, ownRegion}
 use Rattle.kdb.specs.Print.{printed, stateOf}
 use Rattle.kdb.specs.Walk.{listWalk}
@@ -125,6 +125,10 @@ pub record Demand1 (w : List ℕ) : Type 0 where
   -- a new point is placed, or gets 9 exactly if the steps lack a page
   pub nine : (work p : List ℕ) (l : ℕ) → New w work p → (outcome w (place work p l) .number ≡ 9) ↔ (stepped w (record { key = p; loc = l }) ≡ none)
   pub places : (work p : List ℕ) (l : ℕ) → New w work p → (outcome w (place work p l) .number ≡ 9 → ⊥) → outcome w (place work p l) .number ≡ 0
+  -- and they lack nothing else: with some pages more they go through
+  pub wanting : (work p : List ℕ) (l : ℕ) → New w work p
+      → (m : ℕ) × (s : State) × (placedOn (domains w) (regionsPer L (domains w)) (pointsPer L (domains w)) (stateOf L w) (record { key = p; loc = l })
+      (freeOf (pagesIn L w) (pagesOf (stateOf L w)) ++ upFrom m (pagesIn L w)) ≡ some s)
 
 -- What a call leaves in the buffers: the pool is unchanged after every refusal; after 0 and 9 place's work buffer is the pool before the
 -- call, after other refusals it is unchanged; where list's walk meets a bad page every slot is 0, after other refusals the slots are

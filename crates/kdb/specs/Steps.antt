@@ -135,10 +135,14 @@ abbrev pub first : Rec → List ℕ → Option State
 first q [] = none
 first q (r ∷ free) = some (some (leaf r 0 (q ∷ [])))
 
--- the state after a record is placed; none where a page is wanting, on a well-formed state exactly then
+-- the state after a record is placed with these pages free; none where a page is wanting, on a well-formed state exactly then
+abbrev pub placedOn : ℕ → ℕ → ℕ → State → Rec → List ℕ → Option State
+placedOn k R P none q free = first q free
+placedOn k R P (some t) q free = topped k (grow k R P t q free)
+
+-- with the free ones of N pages
 abbrev pub placed : ℕ → ℕ → ℕ → ℕ → State → Rec → Option State
-placed k R P N none q = first q (freeOf N [])
-placed k R P N (some t) q = topped k (grow k R P t q (freeOf N (pagesOf (some t))))
+placed k R P N s q = placedOn k R P s q (freeOf N (pagesOf s))
 
 -- removing: down the first entry that holds the point, to the point page, where the first record with those keys goes
 abbrev pub without : Key → List Rec → List Rec
