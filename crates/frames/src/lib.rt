@@ -348,7 +348,7 @@ fn frame(
         2 => remove_frame(&list, n, pool, words, out, at),
         3 => find_frame(&list, n, pool, words, out, at),
         4 => list_frame(&list, n, pool, words, out, at),
-        5..=255 => no_frame(out, at),
+        5..=255 => refuse(out, at, 255),
     };
     Said {
         words: words,

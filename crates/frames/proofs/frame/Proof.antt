@@ -1,5 +1,5 @@
 -- `frames::frame` meets its contract. Assumes nothing.
-use Rattle.frames.proofs.Replies.{unframed, frame-empty, frame-first, frame-words, frame-other}
+use Rattle.frames.proofs.Replies.{ff, unframed, frame-empty, frame-first, frame-words, frame-other}
 use Rattle.frames.specs.State.{removeOf, findOf, listOf}
 use Rattle.kdb.specs.Frames.{placeOf}
 use mathlib.Core.Path.{refl}
@@ -16,6 +16,7 @@ use Rattle.frames.proofs.list_frame.Reads as list-frame-reads
 use Rattle.frames.proofs.new_frame.Reads as new-frame-reads
 use Rattle.frames.proofs.no_frame.Reads as no-frame-reads
 use Rattle.frames.proofs.place_frame.Reads as place-frame-reads
+use Rattle.frames.proofs.refuse.Reads as refuse-reads
 use Rattle.frames.proofs.remove_frame.Reads as remove-frame-reads
 use Rattle.text.proofs.words_of.Reads as words-of-reads
 
@@ -84,8 +85,8 @@ slice-aggregate-list-frame c = search needs
 list-frame-requires : tie.Need-list-frame-requires
 list-frame-requires c κs = search needs
 
-no-frame-requires-2 : tie.Need-no-frame-requires-2
-no-frame-requires-2 c κs = search needs
+refuse-requires : tie.Need-refuse-requires
+refuse-requires c κs = search needs
 
 same-length-4 : tie.Need-same-length-4
 same-length-4 c = search needs
@@ -134,7 +135,7 @@ same-length-13 c = search needs
 
 returns-7 : tie.Need-returns-7
 returns-7 c = let a = c .before .before .before .before .before .before .before .before .before .before .before .before .before .before .before .args in
-    rw (frame-other (a .bytes .now) (c .before .before .before .before .before .before .before .before .before .before .if1 .left) (omega arith)) (unframed (a .pool .now) (a .words) (c .before .before .no-frame2 .ensures) (omega arith) (omega arith), refl)
+    rw (frame-other (a .bytes .now) (c .before .before .before .before .before .before .before .before .before .before .if1 .left) (omega arith)) (unframed (a .pool .now) (a .words) (record { text = rw ff at (c .before .before .refuse .ensures .0); room = c .before .before .refuse .ensures .1 }) (omega arith) (omega arith), refl)
 
 pub frame-spec : {M : Type 1} → statement M
 frame-spec =
@@ -161,7 +162,7 @@ frame-spec =
     find-frame-requires
     slice-aggregate-list-frame
     list-frame-requires
-    no-frame-requires-2
+    refuse-requires
     same-length-4
     same-length-5
     same-length-6
