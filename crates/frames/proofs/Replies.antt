@@ -1,17 +1,20 @@
 -- A frame's bytes by their first byte, and the replies that stand in the buffers.
 use mathlib.Core.Bool.{Bool, true, false, cond}
-use mathlib.Core.List.{List, [], _∷_, _++_}
+use mathlib.Core.List.{List, [], _∷_, _++_, append-nil}
 use mathlib.Core.Option.{Option, none, some}
 use mathlib.Core.Path.{_≡_, refl, sym, ap, ap₂, _∙_}
 use Prim.Native.Nat.{ℕ, zero, suc, _+_, _-_, _<_, _≤_, min}
 use native.Mathlib.Omega.{arith}
-use lib.Dec.{leb, eqb, leb→le, nleb→lt}
-use lib.ListN.{length, getD, take, drop}
-use lib.Seq.{take-all, take-length}
-use borrow.Author.Tests.{le-leb, lt-leb, ne-eqb}
-use Rattle.kdb.specs.Frames.{Frame, unknown, withWords, wordsOf, frameOf, framed, parse, bytesOf, Reply, refusal, obey, reply}
-use Rattle.kdb.proofs.Lists.{bool}
-use Rattle.frames.specs.Text.{counted, textOf, Written}
+use lib.Dec.{leb, ltb, eqb, leb→le, nleb→lt}
+use lib.ListN.{length, getD, take, drop, set, take-append-drop}
+use lib.Seq.{sets, take-all, take-at, take-length, take-nil, length-take-le}
+use borrow.Author.Tests.{le-leb, lt-leb, lt-ltb, ne-eqb}
+use Rattle.kdb.specs.Lists.{gather}
+use Rattle.kdb.specs.Frames.{hex, Frame, unknown, withWords, wordsOf, frameOf, framed, parse, bytesOf, Reply, refusal, obey, reply}
+use Rattle.kdb.proofs.Lists.{bool, sets-front}
+use Rattle.text.specs.Text.{counted, Written}
+use Rattle.text.proofs.Write.{written-then, written-feed}
+use Rattle.frames.specs.Answer.{valuesOf, textOf}
 use Rattle.frames.specs.State.{Replied, Unframed}
 
 -- the number 255 alone is FF
@@ -19,8 +22,25 @@ pub ff : textOf 255 [] [] ≡ 70 ∷ 70 ∷ 10 ∷ []
 unfolding textOf
 ff = refl
 
-pub unframed : (w : List ℕ) (words : ℕ) {out out′ : List ℕ} {at at′ : ℕ} → Unframed out at out′ at′ → words ≤ 16384 → Replied (refusal (take words w)) out at w out′ words at′
-unframed w words u h = record { holds = refl; text = u .text; room = u .room; within = h }
+-- words laid over the front of a buffer
+pub laid : (n : ℕ) (buffer ws : List ℕ) → length ws ≡ length (take n buffer) → ws ++ drop n buffer ≡ sets buffer 0 ws
+laid n buffer ws e = sym (ap (λ l. sets l 0 ws) (sym (take-append-drop n buffer)) ∙ sets-front (take n buffer) (drop n buffer) ws e)
+
+pub laid-same : (n : ℕ) (buffer : List ℕ) → buffer ≡ sets buffer 0 (take n buffer)
+laid-same n buffer = sym (take-append-drop n buffer) ∙ laid n buffer (take n buffer) refl
+
+pub laid-front : (buffer ws : List ℕ) → length ws ≤ length buffer → take (length ws) (sets buffer 0 ws) ≡ ws
+laid-front buffer ws h =
+    ap (take (length ws)) (sym (laid (length ws) buffer ws (sym (length-take-le (length ws) buffer h)))) ∙ take-at ws (drop (length ws) buffer) (length ws) refl
+
+-- the pool that stands in its buffer is the reply's
+pub stands : {r : Reply} {pool pool′ out out′ : List ℕ} {words at at′ : ℕ} → Replied r pool out at pool′ out′ words at′ → length pool ≡ 16384 → take words pool′ ≡ r .pool
+stands {r} {pool} q h = ap₂ take (q .long) (q .holds) ∙ laid-front pool (r .pool) (omega (arith, q .long, q .within))
+
+pub unframed : (w : List ℕ) (words : ℕ) {out out′ : List ℕ} {at at′ : ℕ} → Unframed out at out′ at′ → words ≤ 16384 → length w ≡ 16384
+    → Replied (refusal (take words w)) w out at w out′ words at′
+unframed w words u h k =
+    record { holds = laid-same words w; long = sym (length-take-le words w (omega arith)); text = u .text; room = u .room; within = h }
 
 pub frame-empty : (bytes : List ℕ) → length bytes ≡ 0 → framed (some bytes) ≡ unknown
 frame-empty [] h = refl
@@ -48,6 +68,16 @@ unfolding reply
 reply-empty w [] h = refl
 reply-empty w (a ∷ line) h = absurd (omega arith)
 
+pub parse-empty : (line : List ℕ) → length line ≡ 0 → parse line ≡ unknown
+parse-empty [] h = refl
+parse-empty (a ∷ line) h = absurd (omega arith)
+
+pub parse-long : (line : List ℕ) → 128 < length line → parse line ≡ unknown
+parse-long line h = rw (lt-leb (length line) 128 h)
+
+pub parse-bytes : (line bytes : List ℕ) (n : ℕ) → length line ≤ 128 → counted 64 n bytes ≡ bytesOf line → parse line ≡ framed (counted 64 n bytes)
+parse-bytes line bytes n h e = rw (le-leb (length line) 128 h) (ap framed (sym e))
+
 -- a line of up to 128 characters, by the bytes that were read, which are none for 65
 pub reply-bytes : (w line bytes : List ℕ) (n : ℕ) → (length line ≡ 0 → ⊥) → length line ≤ 128 → counted 64 n bytes ≡ bytesOf line → reply w line ≡ obey w (framed (counted 64 n bytes))
 unfolding reply
@@ -70,3 +100,18 @@ take-least n l =
 -- a pool's words past the buffer's end count as the buffer's end
 pub take-within : (n m : ℕ) (l : List ℕ) → length l ≡ 16384 → m ≡ min n 16384 → take m l ≡ take n l
 take-within n m l h e = ap (λ i. take i l) (e ∙ ap (min n) (sym h)) ∙ sym (take-least n l)
+
+-- the values, each if it is there
+gather-values : (g : ℕ → List ℕ) (count a b : ℕ) → gather g (valuesOf count a b) ≡ cond (ltb 0 count) (g a) [] ++ cond (ltb 1 count) (g b) []
+gather-values g zero a b = refl
+gather-values g (suc zero) a b = refl
+gather-values g (suc (suc n)) a b =
+    rw (lt-ltb 0 (suc (suc n)) (omega arith), lt-ltb 1 (suc (suc n)) (omega arith), take-nil n, append-nil (g b))
+
+-- the parts of an answer, one after the other
+pub answer-parts : (number count first second : ℕ) (found : List ℕ) {o p q r s : List ℕ} {at i j k l : ℕ}
+    → Written o at (hex 2 number) p i → Written p i (cond (ltb 0 count) (hex 8 first) []) q j → Written q j (cond (ltb 1 count) (hex 8 second) []) r k
+    → Written r k (gather (hex 8) found) s l → Written o at (textOf number (valuesOf count first second) found) (set s l 10) (l + 1)
+unfolding textOf
+answer-parts number count first second found {o} {p} {q} {r} {s} {at} {i} {j} {k} {l} a b c d =
+    rw (gather-values (hex 8) count first second) (written-then a (written-then (written-then b c) (written-then d (written-feed s l))))

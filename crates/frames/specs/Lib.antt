@@ -1,4 +1,3 @@
 pub mod Stream
-pub mod Text
+pub mod Answer
 pub mod State
-pub mod Pending

@@ -1,158 +1,33 @@
 // A line of bytes to its answer, and a stream of bytes to its output.
-mod pending;
-
 use index::Formatted;
 use index::Found;
 use index::Listed;
+use index::Placed;
+use index::Removed;
 use index::find;
 use index::format;
-use pending::Placed;
-use pending::Removed;
-use pending::place;
-use pending::remove;
+use index::place;
+use index::remove;
+use text::byte_at;
+use text::decode;
+use text::put;
+use text::put_hex;
+use text::put_value;
+use text::put_words;
+use text::words_of;
 ghost use mathlib.Core.Path.{_≡_};
-ghost use mathlib.Core.List.{List, [], _∷_, _++_};
-ghost use Prim.Native.Nat.{ℕ, _+_, _*_, _-_, _≤_, _<_, _^_, min};
-ghost use lib.ListN.{length, getD, set, take, drop};
-ghost use lib.Seq.{sets};
-ghost use Rattle.kdb.specs.Lists.{gather};
-ghost use Rattle.kdb.specs.Frames.{digit, bytesOf, wordsOf, digitOf, hex, withWords, newOf, placeOf, framed, obey, reply};
-ghost use mathlib.Core.Bool.{cond};
+ghost use mathlib.Core.List.{List, []};
+ghost use Prim.Native.Nat.{ℕ, _+_, _≤_, _^_, min};
+ghost use lib.ListN.{length, set, take};
+ghost use Rattle.kdb.specs.Frames.{withWords, newOf, placeOf, framed, parse, obey, reply};
 ghost use mathlib.Core.Option.{some};
-ghost use Rattle.index.specs.Answers.{formattedAs, foundAs, listedAs};
-ghost use Rattle.frames.specs.Pending.{placedAs, removedAs};
-ghost use Rattle.frames.specs.Text.{below, counted, pairOf, wordAt, valuesOf, textOf, Written};
-ghost use Rattle.frames.specs.Stream.{longer, closed};
-ghost use Rattle.frames.specs.State.{removeOf, findOf, listOf, stageOf, Sized, Replied, Unframed, Stepped, Fed, Spoken};
+ghost use Rattle.index.specs.Answers.{formattedAs, placedAs, removedAs, foundAs, listedAs};
+ghost use Rattle.text.specs.Text.{counted, Written};
+ghost use Rattle.frames.specs.Answer.{valuesOf, textOf};
+ghost use Rattle.frames.specs.Stream.{closed, asked, workAfter};
+ghost use Rattle.frames.specs.State.{removeOf, findOf, listOf, storeOf, stageOf, Sized, Replied, Unframed, Stepped, Fed, Spoken};
 
-// The value of a hexadecimal digit, upper or lower case; 16 for another character.
-fn digit_value(b: u8) -> u8
-    ensures { λ r. ⌜ below 16 r ≡ digit b ⌝ }
-{
-    match b {
-        48..=57 => b - 48,
-        65..=70 => b - 55,
-        97..=102 => b - 87,
-        _ => 16,
-    }
-}
-
-// The byte of two digits; 256 where one is another character.
-fn pair_value(a: u8, b: u8) -> usize
-    ensures { λ r. ⌜ below 256 r ≡ pairOf a b ⌝ }
-{
-    let h = digit_value(a) as usize;
-    let l = digit_value(b) as usize;
-    if (h < 16) & (l < 16) { 16 * h + l } else { 256 }
-}
-
-// The bytes of a line of digits, and how many; 65 for an odd number of digits or another character.
-fn decode(line: &[u8], bytes: &mut [u8]) -> usize
-    requires { ⌜ (length (now line) ≤ 128) × (length (now bytes) ≡ 64) ⌝ }
-    ensures { λ r. ⌜ (counted 64 r (now (bytes .exit)) ≡ bytesOf (now (line .entry))) × (r ≤ 65) ⌝ }
-{
-    let mut n: usize = 0;
-    while 2 * n + 1 < line.len() {
-        let b = pair_value(line[2 * n], line[2 * n + 1]);
-        if 255 < b {
-            return 65;
-        }
-        bytes[n] = b as u8;
-        n += 1;
-    }
-    if 2 * n < line.len() { 65 } else { n }
-}
-
-// The byte at `at`, and 0 past the end.
-fn byte_at(bytes: &[u8], at: usize) -> u32
-    ensures { λ r. ⌜ (r ≡ getD (now (bytes .entry)) at 0) × (r < 256) ⌝ }
-{
-    if at < bytes.len() {
-        bytes[at] as u32
-    } else {
-        0
-    }
-}
-
-// The word of 4 bytes, high byte first.
-fn word_value(bytes: &[u8], at: usize) -> u32
-    requires { ⌜ at < 2 ^ 60 ⌝ }
-    ensures { λ r. ⌜ r ≡ wordAt (now (bytes .entry)) at ⌝ }
-{
-    16777216 * byte_at(bytes, at)
-        + 65536 * byte_at(bytes, at + 1)
-        + 256 * byte_at(bytes, at + 2)
-        + byte_at(bytes, at + 3)
-}
-
-// The words of the bytes, and how many; 17 for a part word.
-fn words_of(bytes: &[u8], words: &mut [u32]) -> usize
-    requires { ⌜ (length (now bytes) ≤ 63) × (length (now words) ≡ 16) ⌝ }
-    ensures { λ r. ⌜ (counted 16 r (now (words .exit)) ≡ wordsOf (now (bytes .entry))) × (r ≤ 17) ⌝ }
-{
-    let mut n: usize = 0;
-    while 4 * n + 3 < bytes.len() {
-        words[n] = word_value(bytes, 4 * n);
-        n += 1;
-    }
-    if 4 * n < bytes.len() { 17 } else { n }
-}
-
-// A digit of an answer, upper case.
-fn digit_of(v: usize) -> u8
-    requires { ⌜ v < 16 ⌝ }
-    ensures { λ r. ⌜ r ≡ digitOf v ⌝ }
-{
-    if v < 10 { v as u8 + 48 } else { v as u8 + 55 }
-}
-
-// Sets the byte at `at`, if there is one.
-fn put(out: &mut [u8], at: usize, b: u8)
-    ensures { λ _. ⌜ now (out .exit) ≡ set (now (out .entry)) at b ⌝ }
-{
-    if at < out.len() {
-        out[at] = b;
-    }
-}
-
-// A number of n digits.
-fn put_hex(out: &mut [u8], at: usize, n: usize, v: usize) -> usize
-    requires { ⌜ (at < 2 ^ 63) × (n ≤ 8) ⌝ }
-    ensures { λ r. ⌜ Written (now (out .entry)) at (hex n v) (now (out .exit)) r ⌝ }
-{
-    let mut left = n;
-    let mut rest = v;
-    while 0 < left {
-        left -= 1;
-        put(out, at + left, digit_of(rest % 16));
-        rest = rest / 16;
-    }
-    at + n
-}
-
-// Each word as 8 digits.
-fn put_words(out: &mut [u8], at: usize, words: &[u32]) -> usize
-    requires { ⌜ (at + 512 ≤ 2 ^ 63) × (length (now words) ≤ 64) ⌝ }
-    ensures { λ r. ⌜ Written (now (out .entry)) at (gather (hex 8) (now (words .entry))) (now (out .exit)) r
-        × (r ≡ at + 8 * length (now (words .entry))) ⌝ }
-{
-    let mut i: usize = 0;
-    let mut next = at;
-    while i < words.len() {
-        next = put_hex(out, next, 8, words[i] as usize);
-        i += 1;
-    }
-    next
-}
-
-// A value of 8 digits, if it is there.
-fn put_value(out: &mut [u8], at: usize, there: bool, v: usize) -> usize
-    requires { ⌜ at < 2 ^ 63 ⌝ }
-    ensures { λ r. ⌜ Written (now (out .entry)) at (cond there (hex 8 v) []) (now (out .exit)) r × (r ≤ at + 8) ⌝ }
-{
-    if there { put_hex(out, at, 8, v) } else { at }
-}
-
+// The smaller of two numbers.
 fn at_most(a: usize, b: usize) -> usize
     ensures { λ r. ⌜ r ≡ min a b ⌝ }
 {
@@ -280,7 +155,7 @@ fn placed_values(f: Placed) -> Values
         Placed::Infinite => refused(4),
         Placed::NotSound => refused(6),
         Placed::Present => refused(7),
-        Placed::Full => refused(9),
+        Placed::NoPage => refused(9),
     }
 }
 
@@ -308,7 +183,7 @@ fn removed_values(f: Removed) -> Values
 fn new_frame(bytes: &[u8], pool: &mut [u32], words: usize, out: &mut [u8], at: usize) -> Said
     requires { ⌜ (length (now pool) ≡ 16384) × ((words ≤ 16384) × (at + 531 ≤ 2 ^ 63)) ⌝ }
     ensures { λ r. ⌜ Replied (obey (take words (now (pool .entry))) (newOf (now (bytes .entry))))
-        (now (out .entry)) at (now (pool .exit)) (now (out .exit)) (r .words) (r .at) ⌝ }
+        (now (pool .entry)) (now (out .entry)) at (now (pool .exit)) (now (out .exit)) (r .words) (r .at) ⌝ }
 {
     if bytes.len() != 3 {
         let next = no_frame(out, at);
@@ -356,7 +231,8 @@ fn place_frame(
 ) -> usize
     requires { ⌜ (length (now pool) ≡ 16384) × ((words ≤ 16384) × ((at + 531 ≤ 2 ^ 63) × ((length (now list) ≡ 16) × (length (now work) ≡ 16384)))) ⌝ }
     ensures { λ r. ⌜ Replied (obey (take words (now (pool .entry))) (withWords placeOf (counted 16 n (now (list .entry)))))
-        (now (out .entry)) at (now (pool .exit)) (now (out .exit)) words r ⌝ }
+        (now (pool .entry)) (now (out .entry)) at (now (pool .exit)) (now (out .exit)) words r
+        × (now (work .exit) ≡ workAfter (take words (now (pool .entry))) (now (work .entry)) (withWords placeOf (counted 16 n (now (list .entry))))) ⌝ }
 {
     if 16 < n {
         return no_frame(out, at);
@@ -387,7 +263,7 @@ fn remove_frame(
 ) -> usize
     requires { ⌜ (length (now pool) ≡ 16384) × ((words ≤ 16384) × ((at + 531 ≤ 2 ^ 63) × ((length (now list) ≡ 16)))) ⌝ }
     ensures { λ r. ⌜ Replied (obey (take words (now (pool .entry))) (withWords removeOf (counted 16 n (now (list .entry)))))
-        (now (out .entry)) at (now (pool .exit)) (now (out .exit)) words r ⌝ }
+        (now (pool .entry)) (now (out .entry)) at (now (pool .exit)) (now (out .exit)) words r ⌝ }
 {
     if 16 < n {
         return no_frame(out, at);
@@ -408,7 +284,7 @@ fn find_frame(
 ) -> usize
     requires { ⌜ (length (now pool) ≡ 16384) × ((words ≤ 16384) × ((at + 531 ≤ 2 ^ 63) × ((length (now list) ≡ 16)))) ⌝ }
     ensures { λ r. ⌜ Replied (obey (take words (now (pool .entry))) (withWords findOf (counted 16 n (now (list .entry)))))
-        (now (out .entry)) at (now (pool .entry)) (now (out .exit)) words r ⌝ }
+        (now (pool .entry)) (now (out .entry)) at (now (pool .entry)) (now (out .exit)) words r ⌝ }
 {
     if 16 < n {
         return no_frame(out, at);
@@ -429,7 +305,7 @@ fn list_frame(
 ) -> usize
     requires { ⌜ (length (now pool) ≡ 16384) × ((words ≤ 16384) × ((at + 531 ≤ 2 ^ 63) × ((length (now list) ≡ 16)))) ⌝ }
     ensures { λ r. ⌜ Replied (obey (take words (now (pool .entry))) (withWords listOf (counted 16 n (now (list .entry)))))
-        (now (out .entry)) at (now (pool .entry)) (now (out .exit)) words r ⌝ }
+        (now (pool .entry)) (now (out .entry)) at (now (pool .entry)) (now (out .exit)) words r ⌝ }
 {
     if 16 < n {
         return no_frame(out, at);
@@ -452,7 +328,8 @@ fn frame(
 ) -> Said
     requires { ⌜ Sized (now pool) (now work) words at × (length (now bytes) ≤ 64) ⌝ }
     ensures { λ r. ⌜ Replied (obey (take words (now (pool .entry))) (framed (some (now (bytes .entry)))))
-        (now (out .entry)) at (now (pool .exit)) (now (out .exit)) (r .words) (r .at) ⌝ }
+        (now (pool .entry)) (now (out .entry)) at (now (pool .exit)) (now (out .exit)) (r .words) (r .at)
+        × (now (work .exit) ≡ workAfter (take words (now (pool .entry))) (now (work .entry)) (framed (some (now (bytes .entry))))) ⌝ }
 {
     if bytes.len() == 0 {
         let next = no_frame(out, at);
@@ -471,7 +348,7 @@ fn frame(
         2 => remove_frame(&list, n, pool, words, out, at),
         3 => find_frame(&list, n, pool, words, out, at),
         4 => list_frame(&list, n, pool, words, out, at),
-        5..=255 => no_frame(out, at),
+        5..=255 => refuse(out, at, 255),
     };
     Said {
         words: words,
@@ -490,7 +367,8 @@ fn line_answer(
 ) -> Said
     requires { ⌜ Sized (now pool) (now work) words at ⌝ }
     ensures { λ r. ⌜ Replied (reply (take words (now (pool .entry))) (now (line .entry)))
-        (now (out .entry)) at (now (pool .exit)) (now (out .exit)) (r .words) (r .at) ⌝ }
+        (now (pool .entry)) (now (out .entry)) at (now (pool .exit)) (now (out .exit)) (r .words) (r .at)
+        × (now (work .exit) ≡ workAfter (take words (now (pool .entry))) (now (work .entry)) (parse (now (line .entry)))) ⌝ }
 {
     if line.len() == 0 {
         return Said {
@@ -520,7 +398,7 @@ fn line_answer(
 // One more character of a line; 129 once there are more than 128.
 fn push(line: &mut [u8], digits: usize, b: u8) -> usize
     requires { ⌜ length (now line) ≡ 128 ⌝ }
-    ensures { λ r. ⌜ counted 128 r (now (line .exit)) ≡ longer (counted 128 digits (now (line .entry))) b ⌝ }
+    ensures { λ r. ⌜ (now (line .exit) ≡ set (now (line .entry)) digits b) × (r ≡ min digits 128 + 1) ⌝ }
 {
     if digits < 128 {
         line[digits] = b;
@@ -541,8 +419,9 @@ fn close(
     at: usize,
 ) -> Said
     requires { ⌜ Sized (now pool) (now work) words at × (length (now line) ≡ 128) ⌝ }
-    ensures { λ r. ⌜ Replied (closed (stageOf words digits (now (line .entry)) (now (pool .entry))))
-        (now (out .entry)) at (now (pool .exit)) (now (out .exit)) (r .words) (r .at) ⌝ }
+    ensures { λ r. ⌜ Replied (closed (stageOf (storeOf words digits (now (line .entry)) (now (pool .entry)) (now (work .entry)))))
+        (now (pool .entry)) (now (out .entry)) at (now (pool .exit)) (now (out .exit)) (r .words) (r .at)
+        × (now (work .exit) ≡ workAfter (take words (now (pool .entry))) (now (work .entry)) (asked (counted 128 digits (now (line .entry))))) ⌝ }
 {
     if 128 < digits {
         let next = no_frame(out, at);
@@ -579,8 +458,8 @@ fn step(
     at: usize,
 ) -> Standing
     requires { ⌜ Sized (now pool) (now work) words at × (length (now line) ≡ 128) ⌝ }
-    ensures { λ r. ⌜ Stepped (stageOf words digits (now (line .entry)) (now (pool .entry))) b (now (out .entry)) at
-        (stageOf (r .words) (r .digits) (now (line .exit)) (now (pool .exit))) (now (out .exit)) (r .words) (r .at) ⌝ }
+    ensures { λ r. ⌜ Stepped (storeOf words digits (now (line .entry)) (now (pool .entry)) (now (work .entry))) b (now (out .entry)) at
+        (storeOf (r .words) (r .digits) (now (line .exit)) (now (pool .exit)) (now (work .exit))) (now (out .exit)) (r .at) ⌝ }
 {
     if b == 10 {
         let said = close(line, digits, pool, words, work, out, at);
@@ -617,8 +496,8 @@ fn feed_all(
     out: &mut [u8],
 ) -> Taken
     requires { ⌜ Sized (now pool) (now work) (from .words) 0 × (length (now line) ≡ 128) ⌝ }
-    ensures { λ r. ⌜ Fed (stageOf (from .words) (from .digits) (now (line .entry)) (now (pool .entry))) (now (piece .entry)) (now (out .entry))
-        (stageOf (r .words) (r .digits) (now (line .exit)) (now (pool .exit))) (now (out .exit)) (r .taken) (r .written) ⌝ }
+    ensures { λ r. ⌜ Fed (storeOf (from .words) (from .digits) (now (line .entry)) (now (pool .entry)) (now (work .entry))) (now (piece .entry)) (now (out .entry))
+        (storeOf (r .words) (r .digits) (now (line .exit)) (now (pool .exit)) (now (work .exit))) (now (out .exit)) (r .taken) (r .written) ⌝ }
 {
     let mut words = from.words;
     let mut digits = from.digits;
@@ -656,7 +535,8 @@ pub fn answer(
     out: &mut [u8; 531],
 ) -> Said
     ensures { λ r. ⌜ Replied (reply (take words (now (pool .entry))) (now (line .entry)))
-        (now (out .entry)) 0 (now (pool .exit)) (now (out .exit)) (r .words) (r .at) ⌝ }
+        (now (pool .entry)) (now (out .entry)) 0 (now (pool .exit)) (now (out .exit)) (r .words) (r .at)
+        × (now (work .exit) ≡ workAfter (take words (now (pool .entry))) (now (work .entry)) (parse (now (line .entry)))) ⌝ }
 {
     let within = at_most(words, 16384);
     line_answer(line, pool, within, work, out, 0)
@@ -671,8 +551,8 @@ pub fn feed(
     work: &mut [u32; 16384],
     out: &mut [u8],
 ) -> Taken
-    ensures { λ r. ⌜ Fed (stageOf (from .words) (from .digits) (now (line .entry)) (now (pool .entry))) (now (piece .entry)) (now (out .entry))
-        (stageOf (r .words) (r .digits) (now (line .exit)) (now (pool .exit))) (now (out .exit)) (r .taken) (r .written) ⌝ }
+    ensures { λ r. ⌜ Fed (storeOf (min (from .words) 16384) (from .digits) (now (line .entry)) (now (pool .entry)) (now (work .entry))) (now (piece .entry)) (now (out .entry))
+        (storeOf (r .words) (r .digits) (now (line .exit)) (now (pool .exit)) (now (work .exit))) (now (out .exit)) (r .taken) (r .written) ⌝ }
 {
     let within = Held {
         words: at_most(from.words, 16384),
@@ -689,8 +569,9 @@ pub fn finish(
     work: &mut [u32; 16384],
     out: &mut [u8],
 ) -> Said
-    ensures { λ r. ⌜ Replied (closed (stageOf (from .words) (from .digits) (now (line .entry)) (now (pool .entry))))
-        (now (out .entry)) 0 (now (pool .exit)) (now (out .exit)) (r .words) (r .at) ⌝ }
+    ensures { λ r. ⌜ Replied (closed (stageOf (storeOf (from .words) (from .digits) (now (line .entry)) (now (pool .entry)) (now (work .entry)))))
+        (now (pool .entry)) (now (out .entry)) 0 (now (pool .exit)) (now (out .exit)) (r .words) (r .at)
+        × (now (work .exit) ≡ workAfter (take (from .words) (now (pool .entry))) (now (work .entry)) (asked (counted 128 (from .digits) (now (line .entry))))) ⌝ }
 {
     let within = at_most(from.words, 16384);
     close(line, from.digits, pool, within, work, out, 0)

@@ -7,7 +7,7 @@ use native.Mathlib.Omega.{arith}
 use lib.Dec.{T, leb, eqb, leb→le, nleb→lt, eqb→eq, eqb-refl, T-not}
 use native.Mathlib.Nat.{zero-mul, suc-mul, zero-add, suc-add, add-zero, add-mul, sub-zero}
 use lib.ListN.{length, take, drop, getD, length-append, take-append-drop, set, replicate, drop-of-length-le}
-use lib.Seq.{take-append-add, take-take, take-at, take-nil, sets, sets-eq, set-out, take-all, length-take-le}
+use lib.Seq.{take-append-add, take-take, take-at, take-nil, sets, sets-eq, set-out, set-comm, take-all, length-take-le}
 use borrow.Author.Tests.{eq-eqb, ne-eqb, leb-true, leb-false}
 use Rattle.kdb.specs.Lists.{bit, only, tally, every, anyOf, Each, gather, sum, many, upFrom, pad, same}
 
@@ -540,7 +540,7 @@ module _ {ℓ} {A : Type ℓ} where
   sets-append l i [] ys = ap (λ j. sets l j ys) (add-zero i)
   sets-append l i (x ∷ xs) ys = let e : i + suc (length xs) ≡ suc i + length xs = omega arith in ap (λ j. sets (sets l i (x ∷ xs)) j ys) e ∙ sets-append (set l i x) (suc i) xs ys
 
-  sets-front : (xs ys zs : List A) → length zs ≡ length xs → sets (xs ++ ys) 0 zs ≡ zs ++ ys
+  pub sets-front : (xs ys zs : List A) → length zs ≡ length xs → sets (xs ++ ys) 0 zs ≡ zs ++ ys
   sets-front [] ys [] h = refl
   sets-front [] ys (z ∷ zs) h = absurd (omega arith)
   sets-front (x ∷ xs) ys [] h = absurd (omega arith)
@@ -548,6 +548,10 @@ module _ {ℓ} {A : Type ℓ} where
 
   pub sets-all : (l ys : List A) → length ys ≡ length l → sets l 0 ys ≡ ys
   sets-all l ys h = ap (λ v. sets v 0 ys) (sym (append-nil l)) ∙ (sets-front l [] ys h ∙ append-nil ys)
+
+  pub set-past : (l : List A) (i : ℕ) (xs : List A) (j : ℕ) (a : A) → i + length xs ≤ j → set (sets l i xs) j a ≡ sets (set l j a) i xs
+  set-past l i [] j a h = refl
+  set-past l i (x ∷ xs) j a h = set-past (set l i x) (suc i) xs j a (omega arith) ∙ ap (λ v. sets v (suc i) xs) (set-comm l i j x a (λ e. omega arith))
 
 module _ {ℓ κ} {A : Type ℓ} {B : Type κ} (g : A → List B) where
   pub gather-append : (l m : List A) → gather g (l ++ m) ≡ gather g l ++ gather g m

@@ -1,7 +1,7 @@
 -- `frames::close` meets its contract. Assumes nothing.
 use Rattle.frames.proofs.Replies.{unframed, counted-some, counted-none}
 use lib.Seq.{length-take-le}
-use mathlib.Core.Path.{sym}
+use mathlib.Core.Path.{refl, sym}
 use borrow.Author.Needs.{needs}
 use native.Mathlib.Omega.{arith}
 use Rattle.frames.proofs.close.Statement.{statement}
@@ -19,7 +19,7 @@ same-length c = search needs
 
 returns : tie.Need-returns
 returns c = let a = c .before .before .before .before .before .before .before .before .before .args in
-    rw (counted-none 128 (a .digits) (a .line .now) (c .before .before .before .before .if1 .taken)) (unframed (a .pool .now) (a .words) (c .before .before .no-frame .ensures) (omega arith))
+    rw (counted-none 128 (a .digits) (a .line .now) (c .before .before .before .before .if1 .taken)) (unframed (a .pool .now) (a .words) (c .before .before .no-frame .ensures) (omega arith) (omega arith), refl)
 
 slice-aggregate-line-answer : tie.Need-slice-aggregate-line-answer
 slice-aggregate-line-answer c = sym (length-take-le _ _ (omega arith))

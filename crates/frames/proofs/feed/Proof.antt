@@ -1,5 +1,4 @@
 -- `frames::feed` meets its contract. Assumes nothing.
-use Rattle.frames.proofs.Replies.{take-within}
 use borrow.Author.Needs.{needs}
 use native.Mathlib.Omega.{arith}
 use Rattle.frames.proofs.feed.Statement.{statement}
@@ -19,8 +18,7 @@ same-length : tie.Need-same-length
 same-length c = search needs
 
 returns : tie.Need-returns
-returns c = let a = c .before .before .before .before .before .before .before .before .before .before .args in
-    rw (take-within (a .from .words) (c .before .before .before .before .before .before .before .at-most .result) (a .pool .now) (omega arith) (c .before .before .before .before .before .before .before .at-most .ensures)) at (c .before .before .feed-all .ensures)
+returns c = rw (c .before .before .before .before .before .before .before .at-most .ensures) at (c .before .before .feed-all .ensures)
 
 pub feed-spec : {M : Type 1} → statement M
 feed-spec = tie.close (tie.spec at-most-requires feed-all-requires same-length returns)

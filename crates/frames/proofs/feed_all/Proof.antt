@@ -1,6 +1,6 @@
 -- `frames::feed_all` meets its contract. Assumes nothing.
 use Rattle.frames.proofs.Bytes.{Looping, feeding-none, feeding-next, feeding-end}
-use Rattle.frames.specs.State.{stageOf}
+use Rattle.frames.specs.State.{storeOf}
 use lib.ListN.{length}
 use mathlib.Core.Path.{refl, sym, _∙_}
 use Prim.Native.Nat.{_-_}
@@ -13,14 +13,14 @@ use Rattle.frames.proofs.feed_all.Lts as lts
 use Rattle.frames.proofs.step.Reads as step-reads
 
 abbrev Inv-loop : tie.InvT-loop
-Inv-loop piece line₀ pool₀ work₀ out₀ words₀ digits₀ at₀ i₀ line pool work out words digits at i = Looping (stageOf words₀ digits₀ line₀ pool₀) piece out₀ line pool work out words digits i at
+Inv-loop piece line₀ pool₀ work₀ out₀ words₀ digits₀ at₀ i₀ line pool work out words digits at i = Looping (storeOf words₀ digits₀ line₀ pool₀ work₀) piece out₀ line pool work out words digits i at
 
 abbrev μ-loop : tie.MeasureT-loop
 μ-loop piece line₀ pool₀ work₀ out₀ words₀ digits₀ at₀ i₀ line pool work out words digits at i = length piece - i
 
 loop-holds : tie.Need-loop-holds Inv-loop μ-loop
 loop-holds c = let a = c .before .before .before .before .before .args in
-    record { fed = feeding-none (stageOf (a .from .words) (a .from .digits) (a .line .now) (a .pool .now)) (a .piece .now) (a .out .now); line-long = c .before .before .before .before .before .pre .1; sized = c .before .before .before .before .before .pre .0; out-long = refl }
+    record { fed = feeding-none (storeOf (a .from .words) (a .from .digits) (a .line .now) (a .pool .now) (a .work .now)) (a .piece .now) (a .out .now); line-long = c .before .before .before .before .before .pre .1; sized = c .before .before .before .before .before .pre .0; out-long = refl }
 
 add-if1 : tie.Need-add-if1 Inv-loop μ-loop
 add-if1 c = omega (arith, c .before .loop .inv .fed .fits, c .before .before .before .before .before .before .before .good)

@@ -23,7 +23,7 @@ same-length c = search needs
 
 returns : tie.Need-returns
 returns c = let a = c .before .before .before .before .before .before .before .before .args in
-    rw (counted-none 16 (a .n) (a .list .now) (c .before .before .before .before .if1 .taken)) (unframed (a .pool .now) (a .words) (c .before .before .no-frame .ensures) (omega arith))
+    rw (counted-none 16 (a .n) (a .list .now) (c .before .before .before .before .if1 .taken)) (unframed (a .pool .now) (a .words) (c .before .before .no-frame .ensures) (omega arith) (omega arith))
 
 slice-aggregate-find : tie.Need-slice-aggregate-find
 slice-aggregate-find c = sym (length-take-le _ _ (omega arith))
@@ -53,7 +53,7 @@ returns-2 : tie.Need-returns-2
 returns-2 c = let a = c .before .before .before .before .before .before .before .before .before .before .before .before .before .args in
     let w = take (a .words) (a .pool .now) in
     rw (counted-some 16 (a .n) (a .list .now) (c .before .before .before .before .before .before .before .before .before .if1 .left))
-    (find-replied (c .before .before .before .before .before .before .find .result) (a .words) (a .pool .now) (take (a .n) (a .list .now)) (c .before .before .before .before .before .before .find .ensures) (c .before .before .before .before .before .found-values .ensures w) (c .before .before .put-answer .ensures .0) (c .before .before .put-answer .ensures .1) (omega arith))
+    (find-replied (c .before .before .before .before .before .before .find .result) (a .words) (a .pool .now) (take (a .n) (a .list .now)) (c .before .before .before .before .before .before .find .ensures) (c .before .before .before .before .before .found-values .ensures w) (omega arith) (c .before .before .put-answer .ensures .0) (c .before .before .put-answer .ensures .1) (omega arith))
 
 pub find-frame-spec : {M : Type 1} → statement M
 find-frame-spec =

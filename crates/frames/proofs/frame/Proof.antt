@@ -1,9 +1,10 @@
 -- `frames::frame` meets its contract. Assumes nothing.
-use Rattle.frames.proofs.Replies.{unframed, frame-empty, frame-first, frame-words, frame-other}
+use Rattle.frames.proofs.Replies.{ff, unframed, frame-empty, frame-first, frame-words, frame-other}
 use Rattle.frames.specs.State.{removeOf, findOf, listOf}
 use Rattle.kdb.specs.Frames.{placeOf}
 use mathlib.Core.Path.{refl}
-use Rattle.frames.proofs.Replies.{ff, unframed, frame-empty, frame-first, frame-other}
+use Rattle.frames.proofs.Answers.{unplaced}
+use lib.ListN.{take}
 use borrow.Author.Needs.{needs}
 use native.Mathlib.Omega.{arith}
 use Rattle.frames.proofs.frame.Statement.{statement}
@@ -15,8 +16,9 @@ use Rattle.frames.proofs.list_frame.Reads as list-frame-reads
 use Rattle.frames.proofs.new_frame.Reads as new-frame-reads
 use Rattle.frames.proofs.no_frame.Reads as no-frame-reads
 use Rattle.frames.proofs.place_frame.Reads as place-frame-reads
+use Rattle.frames.proofs.refuse.Reads as refuse-reads
 use Rattle.frames.proofs.remove_frame.Reads as remove-frame-reads
-use Rattle.frames.proofs.words_of.Reads as words-of-reads
+use Rattle.text.proofs.words_of.Reads as words-of-reads
 
 no-frame-requires : tie.Need-no-frame-requires
 no-frame-requires c κs = search needs
@@ -26,7 +28,7 @@ same-length c = search needs
 
 returns : tie.Need-returns
 returns c = let a = c .before .before .before .before .before .before .before .before .before .args in
-    rw (frame-empty (a .bytes .now) (c .before .before .before .before .if1 .taken)) (unframed (a .pool .now) (a .words) (c .before .before .no-frame .ensures) (omega arith))
+    rw (frame-empty (a .bytes .now) (c .before .before .before .before .if1 .taken)) (unframed (a .pool .now) (a .words) (c .before .before .no-frame .ensures) (omega arith) (omega arith), refl)
 
 sub-rest : tie.Need-sub-rest
 sub-rest c = search needs
@@ -56,7 +58,8 @@ same-length-3 : tie.Need-same-length-3
 same-length-3 c = search needs
 
 returns-2 : tie.Need-returns-2
-returns-2 c = rw (frame-first (c .before .before .before .before .before .before .before .before .before .before .before .before .before .before .before .before .before .before .args .bytes .now) 0 (c .before .before .before .before .before .before .before .before .before .before .before .before .before .if1 .left) (c .before .before .before .before .before .before .before .match .keys1)) (c .before .before .before .before .new-frame .ensures)
+returns-2 c = let a = c .before .before .before .before .before .before .before .before .before .before .before .before .before .before .before .before .before .before .args in
+    (rw (frame-first (c .before .before .before .before .before .before .before .before .before .before .before .before .before .before .before .before .before .before .args .bytes .now) 0 (c .before .before .before .before .before .before .before .before .before .before .before .before .before .if1 .left) (c .before .before .before .before .before .before .before .match .keys1)) (c .before .before .before .before .new-frame .ensures), unplaced (take (a .words) (a .pool .now)) (a .work .now) (a .bytes .now) (λ e. omega (arith, c .before .before .before .before .before .before .before .match .keys1)))
 
 slice-aggregate-place-frame : tie.Need-slice-aggregate-place-frame
 slice-aggregate-place-frame c = search needs
@@ -82,8 +85,8 @@ slice-aggregate-list-frame c = search needs
 list-frame-requires : tie.Need-list-frame-requires
 list-frame-requires c κs = search needs
 
-no-frame-requires-2 : tie.Need-no-frame-requires-2
-no-frame-requires-2 c κs = search needs
+refuse-requires : tie.Need-refuse-requires
+refuse-requires c κs = search needs
 
 same-length-4 : tie.Need-same-length-4
 same-length-4 c = search needs
@@ -104,7 +107,8 @@ same-length-8 : tie.Need-same-length-8
 same-length-8 c = search needs
 
 returns-4 : tie.Need-returns-4
-returns-4 c = rw (frame-words (c .before .before .before .before .before .before .before .before .before .before .before .before .before .before .before .before .before .before .before .args .bytes .now) _ 2 (c .before .before .before .before .before .before .before .before .before .before .before .words-of .result) removeOf (c .before .before .before .before .before .before .before .before .before .before .before .before .before .before .if1 .left) (c .before .before .before .before .before .before .before .before .match .keys3) (c .before .before .before .before .before .before .before .before .before .before .before .words-of .ensures .0) (λ bs. refl)) (c .before .before .before .before .remove-frame .ensures)
+returns-4 c = let a = c .before .before .before .before .before .before .before .before .before .before .before .before .before .before .before .before .before .before .before .args in
+    (rw (frame-words (c .before .before .before .before .before .before .before .before .before .before .before .before .before .before .before .before .before .before .before .args .bytes .now) _ 2 (c .before .before .before .before .before .before .before .before .before .before .before .words-of .result) removeOf (c .before .before .before .before .before .before .before .before .before .before .before .before .before .before .if1 .left) (c .before .before .before .before .before .before .before .before .match .keys3) (c .before .before .before .before .before .before .before .before .before .before .before .words-of .ensures .0) (λ bs. refl)) (c .before .before .before .before .remove-frame .ensures), unplaced (take (a .words) (a .pool .now)) (a .work .now) (a .bytes .now) (λ e. omega (arith, c .before .before .before .before .before .before .before .before .match .keys3)))
 
 same-length-9 : tie.Need-same-length-9
 same-length-9 c = search needs
@@ -113,7 +117,8 @@ same-length-10 : tie.Need-same-length-10
 same-length-10 c = search needs
 
 returns-5 : tie.Need-returns-5
-returns-5 c = rw (frame-words (c .before .before .before .before .before .before .before .before .before .before .before .before .before .before .before .before .before .args .bytes .now) _ 3 (c .before .before .before .before .before .before .before .before .before .words-of .result) findOf (c .before .before .before .before .before .before .before .before .before .before .before .before .if1 .left) (c .before .before .before .before .before .before .match .keys4) (c .before .before .before .before .before .before .before .before .before .words-of .ensures .0) (λ bs. refl)) (c .before .before .find-frame .ensures)
+returns-5 c = let a = c .before .before .before .before .before .before .before .before .before .before .before .before .before .before .before .before .before .args in
+    (rw (frame-words (c .before .before .before .before .before .before .before .before .before .before .before .before .before .before .before .before .before .args .bytes .now) _ 3 (c .before .before .before .before .before .before .before .before .before .words-of .result) findOf (c .before .before .before .before .before .before .before .before .before .before .before .before .if1 .left) (c .before .before .before .before .before .before .match .keys4) (c .before .before .before .before .before .before .before .before .before .words-of .ensures .0) (λ bs. refl)) (c .before .before .find-frame .ensures), unplaced (take (a .words) (a .pool .now)) (a .work .now) (a .bytes .now) (λ e. omega (arith, c .before .before .before .before .before .before .match .keys4)))
 
 same-length-11 : tie.Need-same-length-11
 same-length-11 c = search needs
@@ -122,14 +127,15 @@ same-length-12 : tie.Need-same-length-12
 same-length-12 c = search needs
 
 returns-6 : tie.Need-returns-6
-returns-6 c = rw (frame-words (c .before .before .before .before .before .before .before .before .before .before .before .before .before .before .before .before .before .args .bytes .now) _ 4 (c .before .before .before .before .before .before .before .before .before .words-of .result) listOf (c .before .before .before .before .before .before .before .before .before .before .before .before .if1 .left) (c .before .before .before .before .before .before .match .keys5) (c .before .before .before .before .before .before .before .before .before .words-of .ensures .0) (λ bs. refl)) (c .before .before .list-frame .ensures)
+returns-6 c = let a = c .before .before .before .before .before .before .before .before .before .before .before .before .before .before .before .before .before .args in
+    (rw (frame-words (c .before .before .before .before .before .before .before .before .before .before .before .before .before .before .before .before .before .args .bytes .now) _ 4 (c .before .before .before .before .before .before .before .before .before .words-of .result) listOf (c .before .before .before .before .before .before .before .before .before .before .before .before .if1 .left) (c .before .before .before .before .before .before .match .keys5) (c .before .before .before .before .before .before .before .before .before .words-of .ensures .0) (λ bs. refl)) (c .before .before .list-frame .ensures), unplaced (take (a .words) (a .pool .now)) (a .work .now) (a .bytes .now) (λ e. omega (arith, c .before .before .before .before .before .before .match .keys5)))
 
 same-length-13 : tie.Need-same-length-13
 same-length-13 c = search needs
 
 returns-7 : tie.Need-returns-7
 returns-7 c = let a = c .before .before .before .before .before .before .before .before .before .before .before .before .before .before .before .args in
-    rw (frame-other (a .bytes .now) (c .before .before .before .before .before .before .before .before .before .before .if1 .left) (omega arith)) (unframed (a .pool .now) (a .words) (c .before .before .no-frame2 .ensures) (omega arith))
+    rw (frame-other (a .bytes .now) (c .before .before .before .before .before .before .before .before .before .before .if1 .left) (omega arith)) (unframed (a .pool .now) (a .words) (record { text = rw ff at (c .before .before .refuse .ensures .0); room = c .before .before .refuse .ensures .1 }) (omega arith) (omega arith), refl)
 
 pub frame-spec : {M : Type 1} → statement M
 frame-spec =
@@ -156,7 +162,7 @@ frame-spec =
     find-frame-requires
     slice-aggregate-list-frame
     list-frame-requires
-    no-frame-requires-2
+    refuse-requires
     same-length-4
     same-length-5
     same-length-6

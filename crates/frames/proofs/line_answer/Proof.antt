@@ -1,7 +1,7 @@
 -- `frames::line_answer` meets its contract. Assumes nothing.
 use lib.ListN.{take, length-take}
-use Rattle.frames.proofs.Replies.{unframed, reply-empty, reply-bytes, counted-some, counted-none}
-use Rattle.frames.proofs.Write.{written-none}
+use Rattle.frames.proofs.Replies.{unframed, laid-same, reply-empty, reply-bytes, parse-empty, parse-long, parse-bytes, counted-some, counted-none}
+use Rattle.text.proofs.Write.{written-none}
 use Rattle.kdb.proofs.Frames.{reply-long}
 use lib.Seq.{length-take-le}
 use mathlib.Core.Path.{refl, sym}
@@ -11,13 +11,14 @@ use Rattle.frames.proofs.line_answer.Statement.{statement}
 use Rattle.frames.proofs.line_answer.Tie as tie
 use Rattle.frames.proofs.line_answer.Reads as reads
 use Rattle.frames.proofs.line_answer.Lts as lts
-use Rattle.frames.proofs.decode.Reads as decode-reads
+use Rattle.text.proofs.decode.Reads as decode-reads
 use Rattle.frames.proofs.frame.Reads as frame-reads
 use Rattle.frames.proofs.no_frame.Reads as no-frame-reads
 
 returns : tie.Need-returns
 returns c = let a = c .before .before .before .before .before .args in
-    rw (reply-empty (take (a .words) (a .pool .now)) (a .line .now) (c .if1 .taken)) (record { holds = refl; text = written-none (a .out .now) (a .at); room = omega arith; within = omega arith })
+    rw (reply-empty (take (a .words) (a .pool .now)) (a .line .now) (c .if1 .taken), parse-empty (a .line .now) (c .if1 .taken))
+    (record { holds = laid-same (a .words) (a .pool .now); long = sym (length-take-le (a .words) (a .pool .now) (omega arith)); text = written-none (a .out .now) (a .at); room = omega arith; within = omega arith }, refl)
 
 no-frame-requires : tie.Need-no-frame-requires
 no-frame-requires c κs = search needs
@@ -27,7 +28,7 @@ same-length c = search needs
 
 returns-2 : tie.Need-returns-2
 returns-2 c = let a = c .before .before .before .before .before .before .before .before .before .before .args in
-    rw (reply-long (take (a .words) (a .pool .now)) (a .line .now) (c .before .before .before .before .if2 .taken)) (unframed (a .pool .now) (a .words) (c .before .before .no-frame .ensures) (omega arith))
+    rw (reply-long (take (a .words) (a .pool .now)) (a .line .now) (c .before .before .before .before .if2 .taken), parse-long (a .line .now) (c .before .before .before .before .if2 .taken)) (unframed (a .pool .now) (a .words) (c .before .before .no-frame .ensures) (omega arith) (omega arith), refl)
 
 slice-aggregate-decode : tie.Need-slice-aggregate-decode
 slice-aggregate-decode c = search needs
@@ -44,8 +45,8 @@ same-length-2 c = search needs
 returns-3 : tie.Need-returns-3
 returns-3 c = let a = c .before .before .before .before .before .before .before .before .before .before .before .before .before .before .args in
     let d = c .before .before .before .before .before .before .decode in
-    rw (reply-bytes (take (a .words) (a .pool .now)) (a .line .now) _ (d .result) (c .before .before .before .before .before .before .before .before .before .if1 .left) (c .before .before .before .before .before .before .before .before .if2 .left) (d .ensures .0), counted-none 64 (d .result) _ (c .before .before .before .before .if3 .taken))
-    (unframed (a .pool .now) (a .words) (c .before .before .no-frame2 .ensures) (omega arith))
+    rw (reply-bytes (take (a .words) (a .pool .now)) (a .line .now) _ (d .result) (c .before .before .before .before .before .before .before .before .before .if1 .left) (c .before .before .before .before .before .before .before .before .if2 .left) (d .ensures .0), parse-bytes (a .line .now) _ (d .result) (c .before .before .before .before .before .before .before .before .if2 .left) (d .ensures .0), counted-none 64 (d .result) _ (c .before .before .before .before .if3 .taken))
+    (unframed (a .pool .now) (a .words) (c .before .before .no-frame2 .ensures) (omega arith) (omega arith), refl)
 
 array-share-prefix-bytes : tie.Need-array-share-prefix-bytes
 array-share-prefix-bytes c = search needs
@@ -68,7 +69,7 @@ same-length-5 c = search needs
 returns-4 : tie.Need-returns-4
 returns-4 c = let a = c .before .before .before .before .before .before .before .before .before .before .before .before .before .before .before .before .before .before .before .before .before .args in
     let d = c .before .before .before .before .before .before .before .before .before .before .before .before .before .decode in
-    rw (reply-bytes (take (a .words) (a .pool .now)) (a .line .now) _ (d .result) (c .before .before .before .before .before .before .before .before .before .before .before .before .before .before .before .before .if1 .left) (c .before .before .before .before .before .before .before .before .before .before .before .before .before .before .before .if2 .left) (d .ensures .0), counted-some 64 (d .result) _ (c .before .before .before .before .before .before .before .before .before .before .before .if3 .left))
+    rw (reply-bytes (take (a .words) (a .pool .now)) (a .line .now) _ (d .result) (c .before .before .before .before .before .before .before .before .before .before .before .before .before .before .before .before .if1 .left) (c .before .before .before .before .before .before .before .before .before .before .before .before .before .before .before .if2 .left) (d .ensures .0), parse-bytes (a .line .now) _ (d .result) (c .before .before .before .before .before .before .before .before .before .before .before .before .before .before .before .if2 .left) (d .ensures .0), counted-some 64 (d .result) _ (c .before .before .before .before .before .before .before .before .before .before .before .if3 .left))
     (c .before .before .before .before .before .before .frame .ensures)
 
 pub line-answer-spec : {M : Type 1} → statement M

@@ -25,7 +25,7 @@ same-length c = search needs
 
 returns : tie.Need-returns
 returns c = let a = c .before .before .before .before .before .before .before .before .args in
-    rw (counted-none 16 (a .n) (a .list .now) (c .before .before .before .before .if1 .taken)) (unframed (a .pool .now) (a .words) (c .before .before .no-frame .ensures) (omega arith))
+    rw (counted-none 16 (a .n) (a .list .now) (c .before .before .before .before .if1 .taken)) (unframed (a .pool .now) (a .words) (c .before .before .no-frame .ensures) (omega arith) (omega arith))
 
 slice-aggregate-list : tie.Need-slice-aggregate-list
 slice-aggregate-list c = sym (length-take-le _ _ (omega arith))
@@ -62,7 +62,7 @@ returns-2 c = let a = c .before .before .before .before .before .before .before 
     let w = take (a .words) (a .pool .now) in
     let full = c .before .before .before .before .before .before .before .before .list .last .1 .1 .0 in
     rw (counted-some 16 (a .n) (a .list .now) (c .before .before .before .before .before .before .before .before .before .before .before .before .if1 .left))
-    (list-replied (c .before .before .before .before .before .before .before .before .list .result) (a .words) (a .pool .now) (take (a .n) (a .list .now)) full slots (c .before .before .before .before .before .at-most .result) (c .before .before .before .before .before .before .before .before .list .ensures) (c .before .before .before .before .before .before .listed-values .ensures w full) (c .before .before .before .before .before .before .before .before .list .kept .1 .1 .0) (c .before .before .before .before .before .at-most .ensures) (c .before .before .put-answer .ensures .0) (c .before .before .put-answer .ensures .1) (omega arith))
+    (list-replied (c .before .before .before .before .before .before .before .before .list .result) (a .words) (a .pool .now) (take (a .n) (a .list .now)) full slots (c .before .before .before .before .before .at-most .result) (c .before .before .before .before .before .before .before .before .list .ensures) (c .before .before .before .before .before .before .listed-values .ensures w full) (c .before .before .before .before .before .before .before .before .list .kept .1 .1 .0) (c .before .before .before .before .before .at-most .ensures) (omega arith) (c .before .before .put-answer .ensures .0) (c .before .before .put-answer .ensures .1) (omega arith))
 
 pub list-frame-spec : {M : Type 1} → statement M
 list-frame-spec =

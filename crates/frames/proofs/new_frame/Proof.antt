@@ -11,7 +11,7 @@ use Rattle.frames.proofs.new_frame.Statement.{statement}
 use Rattle.frames.proofs.new_frame.Tie as tie
 use Rattle.frames.proofs.new_frame.Reads as reads
 use Rattle.frames.proofs.new_frame.Lts as lts
-use Rattle.frames.proofs.byte_at.Reads as byte-at-reads
+use Rattle.text.proofs.byte_at.Reads as byte-at-reads
 use Rattle.frames.proofs.formatted_values.Reads as formatted-values-reads
 use Rattle.frames.proofs.no_frame.Reads as no-frame-reads
 use Rattle.frames.proofs.put_answer.Reads as put-answer-reads
@@ -26,7 +26,7 @@ same-length c = search needs
 
 returns : tie.Need-returns
 returns c = let a = c .before .before .before .before .before .before .before .before .args in
-    rw (new-other (a .bytes .now) (c .before .before .before .before .if1 .taken)) (unframed (a .pool .now) (a .words) (c .before .before .no-frame .ensures) (omega arith))
+    rw (new-other (a .bytes .now) (c .before .before .before .before .if1 .taken)) (unframed (a .pool .now) (a .words) (c .before .before .no-frame .ensures) (omega arith) (omega arith))
 
 byte-at-requires : tie.Need-byte-at-requires
 byte-at-requires c κs = search needs
@@ -61,7 +61,7 @@ same-length-2 c = search needs
 returns-2 : tie.Need-returns-2
 returns-2 c = let a = c .before .before .before .before .before .before .before .before .before .before .before .before .args in
     rw (new-three (a .bytes .now) (c .before .before .before .before .before .before .before .before .if1 .left), ← c .before .before .before .before .before .before .before .byte-at .ensures .0, ← c .before .before .before .before .before .before .byte-at2 .ensures .0, ← c .before .before .before .before .before .byte-at3 .ensures .0)
-    (new-big (take (a .words) (a .pool .now)) (a .pool .now) (a .words) _ _ (c .before .before .before .before .if2 .taken) (c .before .before .refuse .ensures .0) (c .before .before .refuse .ensures .1) (omega arith) refl)
+    (new-big (a .pool .now) (a .words) _ _ (c .before .before .before .before .if2 .taken) (omega arith) (c .before .before .refuse .ensures .0) (c .before .before .refuse .ensures .1) (omega arith))
 
 mul-size : tie.Need-mul-size
 mul-size c = search needs
@@ -109,7 +109,7 @@ returns-4 : tie.Need-returns-4
 returns-4 c = let a = c .before .before .before .before .before .before .before .before .before .before .before .before .before .before .before .before .before .before .before .args in
     let part = c .before .before .before .before .before .before .before .before .before .format .last .0 in
     rw (new-three (a .bytes .now) (c .before .before .before .before .before .before .before .before .before .before .before .before .before .before .before .if1 .left), ← c .before .before .before .before .before .before .before .before .before .before .before .before .before .before .byte-at .ensures .0, ← c .before .before .before .before .before .before .before .before .before .before .before .before .before .byte-at2 .ensures .0, ← c .before .before .before .before .before .before .before .before .before .before .before .before .byte-at3 .ensures .0)
-    (new-refused (c .before .before .before .before .before .before .before .before .before .format .result) (take (a .words) (a .pool .now)) (a .pool .now) part (c .before .before .before .before .before .before .before .before .before .before .before .before .before .before .byte-at .result) (256 * c .before .before .before .before .before .before .before .before .before .before .before .before .before .byte-at2 .result + c .before .before .before .before .before .before .before .before .before .before .before .before .byte-at3 .result) (omega arith) (c .before .before .before .before .before .before .before .before .before .format .ensures) (a .words) (c .before .before .before .before .before .before .formatted-values .ensures part) (c .if3 .left) (c .before .before .before .put-answer .ensures .0) (c .before .before .before .put-answer .ensures .1) (omega arith) refl)
+    (new-refused (c .before .before .before .before .before .before .before .before .before .format .result) (take (a .words) (a .pool .now)) (a .pool .now) part (c .before .before .before .before .before .before .before .before .before .before .before .before .before .before .byte-at .result) (256 * c .before .before .before .before .before .before .before .before .before .before .before .before .before .byte-at2 .result + c .before .before .before .before .before .before .before .before .before .before .before .before .byte-at3 .result) (omega arith) (c .before .before .before .before .before .before .before .before .before .format .ensures) (a .words) (c .before .before .before .before .before .before .formatted-values .ensures part) (c .if3 .left) (c .before .before .before .put-answer .ensures .0) (c .before .before .before .put-answer .ensures .1) (omega arith) (omega arith) refl)
 
 pub new-frame-spec : {M : Type 1} → statement M
 new-frame-spec =

@@ -2,8 +2,8 @@
 use Rattle.frames.proofs.Replies.{ff, unframed, counted-some, counted-none}
 use lib.Seq.{length-take-le}
 use lib.ListN.{take}
-use mathlib.Core.Path.{_≡_, sym, _∙_}
-use Rattle.frames.proofs.Answers.{place-words, place-replied}
+use mathlib.Core.Path.{_≡_, refl, sym, _∙_}
+use Rattle.frames.proofs.Answers.{place-words, place-replied, place-worked}
 use lib.ListN.{length, getD}
 use Prim.Native.Nat.{_-_}
 use borrow.Author.Needs.{needs}
@@ -13,7 +13,7 @@ use Rattle.frames.proofs.place_frame.Tie as tie
 use Rattle.frames.proofs.place_frame.Reads as reads
 use Rattle.frames.proofs.place_frame.Lts as lts
 use Rattle.frames.proofs.no_frame.Reads as no-frame-reads
-use Rattle.frames.proofs.pending.place.Reads as place-reads
+use Rattle.index.proofs.place.Reads as place-reads
 use Rattle.frames.proofs.placed_values.Reads as placed-values-reads
 use Rattle.frames.proofs.put_answer.Reads as put-answer-reads
 
@@ -25,7 +25,7 @@ same-length c = search needs
 
 returns : tie.Need-returns
 returns c = let a = c .before .before .before .before .before .before .before .before .before .args in
-    rw (counted-none 16 (a .n) (a .list .now) (c .before .before .before .before .if1 .taken)) (unframed (a .pool .now) (a .words) (c .before .before .no-frame .ensures) (omega arith))
+    rw (counted-none 16 (a .n) (a .list .now) (c .before .before .before .before .if1 .taken)) (unframed (a .pool .now) (a .words) (c .before .before .no-frame .ensures) (omega arith) (omega arith), refl)
 
 refuse-requires : tie.Need-refuse-requires
 refuse-requires c κs = search needs
@@ -35,7 +35,7 @@ same-length-2 c = search needs
 
 returns-2 : tie.Need-returns-2
 returns-2 c = let a = c .before .before .before .before .before .before .before .before .before .before .args in
-    rw (c .before .before .before .before .if2 .taken) (unframed (a .pool .now) (a .words) (record { text = rw ff at (c .before .before .refuse .ensures .0); room = c .before .before .refuse .ensures .1 }) (omega arith))
+    rw (c .before .before .before .before .if2 .taken) (unframed (a .pool .now) (a .words) (record { text = rw ff at (c .before .before .refuse .ensures .0); room = c .before .before .refuse .ensures .1 }) (omega arith) (omega arith), refl)
 
 sub-last : tie.Need-sub-last
 sub-last c = search needs
@@ -89,8 +89,10 @@ returns-3 : tie.Need-returns-3
 returns-3 c = let a = c .before .before .before .before .before .before .before .before .before .before .before .before .before .before .before .before .before .before .before .before .before .args in
     let p = c .before .before .before .before .before .before .before .before .before .before .place in
     let k : length (take (a .words) (a .work .now)) ≡ length (take (a .words) (a .pool .now)) = length-take-le (a .words) (a .work .now) (omega (arith, c .before .before .before .before .before .before .before .before .before .before .before .before .before .before .before .before .before .before .before .before .before .pre)) ∙ sym (length-take-le (a .words) (a .pool .now) (omega (arith, c .before .before .before .before .before .before .before .before .before .before .before .before .before .before .before .before .before .before .before .before .before .pre))) in
-    rw (counted-some 16 (a .n) (a .list .now) (c .before .before .before .before .before .before .before .before .before .before .before .before .before .before .before .before .if1 .left), place-words (a .list .now) (a .n) (omega (arith, c .before .before .before .before .before .before .before .before .before .before .before .before .before .before .before .before .before .before .before .before .before .pre)) (omega (arith, c .before .before .before .before .before .before .before .before .before .before .before .before .before .before .before .before .before .before .before .before .before .pre)))
-    (place-replied (p .result) (a .words) (a .pool .now) (p .last .0) (a .work .now) (p .last .1 .0) (take (a .n - 1) (a .list .now)) (getD (a .list .now) (a .n - 1) 0) (p .ensures) (c .before .before .before .before .before .placed-values .ensures (p .last .0) (p .last .1 .0)) (p .kept .0) k (omega (arith, c .before .before .before .before .before .before .before .before .before .before .before .before .before .before .before .before .before .before .before .before .before .pre)) (c .before .before .put-answer .ensures .0) (c .before .before .put-answer .ensures .1) (omega (arith, c .before .before .before .before .before .before .before .before .before .before .before .before .before .before .before .before .before .before .before .before .before .pre)))
+    rw (counted-some 16 (a .n) (a .list .now) (c .before .before .before .before .before .before .before .before .before .before .before .before .before .before .before .before .if1 .left), place-words (a .list .now) (a .n) (omega (arith, c .before .before .before .before .before .before .before .before .before .before .before .before .before .before .before .before .before .before .before .before .before .pre)) (omega (arith, c .before .before .before .before .before .before .before .before .before .before .before .before .before .before .before .before .before .before .before .before .before .pre))) (
+      place-replied (p .result) (a .words) (a .pool .now) (p .last .0) (a .work .now) (p .last .1 .0) (take (a .n - 1) (a .list .now)) (getD (a .list .now) (a .n - 1) 0) (p .ensures) (c .before .before .before .before .before .placed-values .ensures (p .last .0) (p .last .1 .0)) (p .kept .0) k (omega (arith, c .before .before .before .before .before .before .before .before .before .before .before .before .before .before .before .before .before .before .before .before .before .pre)) (c .before .before .put-answer .ensures .0) (c .before .before .put-answer .ensures .1) (omega (arith, c .before .before .before .before .before .before .before .before .before .before .before .before .before .before .before .before .before .before .before .before .before .pre)),
+      place-worked (p .result) (a .words) (a .pool .now) (p .last .0) (a .work .now) (p .last .1 .0) (take (a .n - 1) (a .list .now)) (getD (a .list .now) (a .n - 1) 0) (p .ensures) (p .kept .1 .0) (omega (arith, c .before .before .before .before .before .before .before .before .before .before .before .before .before .before .before .before .before .before .before .before .before .pre)),
+    )
 
 pub place-frame-spec : {M : Type 1} → statement M
 place-frame-spec =

@@ -1,5 +1,6 @@
 -- `frames::push` meets its contract. Assumes nothing.
-use Rattle.frames.proofs.Bytes.{push-more, push-full}
+use mathlib.Core.Path.{refl, sym}
+use lib.Seq.{set-out}
 use borrow.Author.Needs.{needs}
 use native.Mathlib.Omega.{arith}
 use Rattle.frames.proofs.push.Statement.{statement}
@@ -17,10 +18,10 @@ same-length : tie.Need-same-length
 same-length c = search needs
 
 returns : tie.Need-returns
-returns c = push-more (c .before .args .line .now) (c .before .args .digits) (c .before .args .b) (c .before .pre) (c .if1 .taken)
+returns c = (refl, omega arith)
 
 returns-2 : tie.Need-returns-2
-returns-2 c = push-full (c .before .args .line .now) (c .before .args .digits) (c .before .args .b) (c .before .pre) (c .if1 .left)
+returns-2 c = (sym (set-out (c .before .args .line .now) (c .before .args .digits) (c .before .args .b) (omega arith)), omega arith)
 
 pub push-spec : {M : Type 1} → statement M
 push-spec = tie.close (tie.spec slice-write-line add-result same-length returns returns-2)

@@ -1,15 +1,15 @@
 -- `frames::put_answer` meets its contract. Assumes nothing.
-use Rattle.frames.proofs.Write.{answer-parts}
+use Rattle.frames.proofs.Replies.{answer-parts}
 use borrow.Author.Needs.{needs}
 use native.Mathlib.Omega.{arith}
 use Rattle.frames.proofs.put_answer.Statement.{statement}
 use Rattle.frames.proofs.put_answer.Tie as tie
 use Rattle.frames.proofs.put_answer.Reads as reads
 use Rattle.frames.proofs.put_answer.Lts as lts
-use Rattle.frames.proofs.put.Reads as put-reads
-use Rattle.frames.proofs.put_hex.Reads as put-hex-reads
-use Rattle.frames.proofs.put_value.Reads as put-value-reads
-use Rattle.frames.proofs.put_words.Reads as put-words-reads
+use Rattle.text.proofs.put.Reads as put-reads
+use Rattle.text.proofs.put_hex.Reads as put-hex-reads
+use Rattle.text.proofs.put_value.Reads as put-value-reads
+use Rattle.text.proofs.put_words.Reads as put-words-reads
 
 put-hex-requires : tie.Need-put-hex-requires
 put-hex-requires c κs = search needs

@@ -11,7 +11,7 @@ use Rattle.frames.proofs.remove_frame.Tie as tie
 use Rattle.frames.proofs.remove_frame.Reads as reads
 use Rattle.frames.proofs.remove_frame.Lts as lts
 use Rattle.frames.proofs.no_frame.Reads as no-frame-reads
-use Rattle.frames.proofs.pending.remove.Reads as remove-reads
+use Rattle.index.proofs.remove.Reads as remove-reads
 use Rattle.frames.proofs.put_answer.Reads as put-answer-reads
 use Rattle.frames.proofs.removed_values.Reads as removed-values-reads
 
@@ -23,7 +23,7 @@ same-length c = search needs
 
 returns : tie.Need-returns
 returns c = let a = c .before .before .before .before .before .before .before .before .args in
-    rw (counted-none 16 (a .n) (a .list .now) (c .before .before .before .before .if1 .taken)) (unframed (a .pool .now) (a .words) (c .before .before .no-frame .ensures) (omega arith))
+    rw (counted-none 16 (a .n) (a .list .now) (c .before .before .before .before .if1 .taken)) (unframed (a .pool .now) (a .words) (c .before .before .no-frame .ensures) (omega arith) (omega arith))
 
 slice-relend-prefix-remove : tie.Need-slice-relend-prefix-remove
 slice-relend-prefix-remove c = search needs

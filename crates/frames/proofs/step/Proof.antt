@@ -1,5 +1,6 @@
 -- `frames::step` meets its contract. Assumes nothing.
 use Rattle.frames.proofs.Bytes.{step-feed, step-other}
+use Rattle.frames.specs.State.{storeOf}
 use borrow.Author.Needs.{needs}
 use native.Mathlib.Omega.{arith}
 use Rattle.frames.proofs.step.Statement.{statement}
@@ -28,14 +29,17 @@ same-length-4 : tie.Need-same-length-4
 same-length-4 c = search needs
 
 returns : tie.Need-returns
-returns c = step-feed (c .before .before .before .before .before .before .before .before .before .before .before .before .before .before .before .before .args .line .now) (c .before .before .before .before .before .before .before .before .before .before .before .if1 .taken) (c .before .before .before .before .before .before .close .ensures)
+returns c = let a = c .before .before .before .before .before .before .before .before .before .before .before .before .before .before .before .before .args in
+    let l = c .before .before .before .before .before .before .close .ensures in
+    step-feed (storeOf (a .words) (a .digits) (a .line .now) (a .pool .now) (a .work .now)) (c .before .before .before .before .before .before .before .before .before .before .before .if1 .taken) (omega arith) (l .0) (l .1)
 
 same-length-5 : tie.Need-same-length-5
 same-length-5 c = search needs
 
 returns-2 : tie.Need-returns-2
 returns-2 c = let a = c .before .before .before .before .before .before .before .before .before .args in
-    step-other (a .b) (a .words) (a .digits) (c .before .before .push .result) (a .line .now) _ (a .pool .now) (a .out .now) (a .at) (c .before .before .before .before .if1 .left) (c .before .before .push .ensures) (omega arith)
+    let p = c .before .before .push in
+    step-other (storeOf (a .words) (a .digits) (a .line .now) (a .pool .now) (a .work .now)) (a .b) (p .result) _ (a .out .now) (a .at) (c .before .before .before .before .if1 .left) (omega arith) (omega arith) (p .ensures .0) (p .ensures .1)
 
 pub step-spec : {M : Type 1} → statement M
 step-spec =

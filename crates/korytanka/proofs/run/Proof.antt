@@ -69,7 +69,7 @@ array-share-prefix-out : tie.Need-array-share-prefix-out Inv-loop μ-loop
 array-share-prefix-out c = search needs
 
 slice-aggregate-write-all : tie.Need-slice-aggregate-write-all Inv-loop μ-loop
-slice-aggregate-write-all c = sym (length-take-le _ _ (omega (arith, c .before .before .finish .ensures .room, c .before .before .finish .kept .1 .1 .1 .1 .0, c .before .before .before .before .before .before .before .before .loop .inv)))
+slice-aggregate-write-all c = sym (length-take-le _ _ (omega (arith, c .before .before .finish .ensures .0 .room, c .before .before .finish .kept .1 .1 .1 .1 .0, c .before .before .before .before .before .before .before .before .loop .inv)))
 
 write-all-requires : tie.Need-write-all-requires Inv-loop μ-loop
 write-all-requires c κs = search needs

@@ -1,14 +1,14 @@
--- `frames::put_hex` meets its contract. Assumes nothing.
-use Rattle.frames.proofs.Write.{Hexed, hexed-next, hexed-end}
+-- `text::put_hex` meets its contract. Assumes nothing.
+use Rattle.text.proofs.Write.{Hexed, hexed-next, hexed-end}
 use mathlib.Core.Path.{refl}
 use borrow.Author.Needs.{needs}
 use native.Mathlib.Omega.{arith}
-use Rattle.frames.proofs.put_hex.Statement.{statement}
-use Rattle.frames.proofs.put_hex.Tie as tie
-use Rattle.frames.proofs.put_hex.Reads as reads
-use Rattle.frames.proofs.put_hex.Lts as lts
-use Rattle.frames.proofs.digit_of.Reads as digit-of-reads
-use Rattle.frames.proofs.put.Reads as put-reads
+use Rattle.text.proofs.put_hex.Statement.{statement}
+use Rattle.text.proofs.put_hex.Tie as tie
+use Rattle.text.proofs.put_hex.Reads as reads
+use Rattle.text.proofs.put_hex.Lts as lts
+use Rattle.text.proofs.digit_of.Reads as digit-of-reads
+use Rattle.text.proofs.put.Reads as put-reads
 
 abbrev Inv-loop : tie.InvT-loop
 Inv-loop out₀ at n v left₀ rest₀ out left rest = Hexed out₀ at n v out left rest

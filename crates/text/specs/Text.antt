@@ -1,4 +1,4 @@
--- What the parts of the code that read and write text ensure, in kdb's definitions of digits, bytes, words and answers.
+-- What the code that reads and writes text ensures, in kdb's definitions of digits, bytes and words.
 use mathlib.Core.Bool.{Bool, true, false, cond}
 use mathlib.Core.List.{List, [], _∷_, _++_}
 use mathlib.Core.Option.{Option, none, some}
@@ -7,8 +7,8 @@ use Prim.Native.Nat.{ℕ, _+_, _*_}
 use lib.Dec.{leb, ltb}
 use lib.ListN.{length, getD, take}
 use lib.Seq.{sets}
-use Rattle.kdb.specs.Lists.{andThen, gather}
-use Rattle.kdb.specs.Frames.{digit, hex}
+use Rattle.kdb.specs.Lists.{andThen}
+use Rattle.kdb.specs.Frames.{digit}
 
 -- a number below n; any other stands for none
 abbrev pub below : ℕ → ℕ → Option ℕ
@@ -25,14 +25,6 @@ pairOf a b = andThen (digit a) (λ h. andThen (digit b) (λ l. some (16 * h + l)
 -- the word of the 4 bytes from a place on, high byte first
 abbrev pub wordAt : List ℕ → ℕ → ℕ
 wordAt bs at = 16777216 * getD bs at 0 + 65536 * getD bs (at + 1) 0 + 256 * getD bs (at + 2) 0 + getD bs (at + 3) 0
-
--- the first of two values, as many as are counted
-abbrev pub valuesOf : ℕ → ℕ → ℕ → List ℕ
-valuesOf count a b = take count (a ∷ b ∷ [])
-
--- the text of an answer: the number, the values, the locations
-unfoldable pub textOf : ℕ → List ℕ → List ℕ → List ℕ
-textOf number values found = hex 2 number ++ (gather (hex 8) values ++ (gather (hex 8) found ++ (10 ∷ [])))
 
 -- the text stands in the buffer from a place on, and the next place follows it
 pub record Written (before : List ℕ) (at : ℕ) (text after : List ℕ) (next : ℕ) : Type 0 where

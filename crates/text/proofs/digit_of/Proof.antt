@@ -1,11 +1,11 @@
--- `frames::digit_of` meets its contract. Assumes nothing.
+-- `text::digit_of` meets its contract. Assumes nothing.
 use borrow.Author.Tests.{lt-ltb, le-ltb}
 use borrow.Author.Needs.{needs}
 use native.Mathlib.Omega.{arith}
-use Rattle.frames.proofs.digit_of.Statement.{statement}
-use Rattle.frames.proofs.digit_of.Tie as tie
-use Rattle.frames.proofs.digit_of.Reads as reads
-use Rattle.frames.proofs.digit_of.Lts as lts
+use Rattle.text.proofs.digit_of.Statement.{statement}
+use Rattle.text.proofs.digit_of.Tie as tie
+use Rattle.text.proofs.digit_of.Reads as reads
+use Rattle.text.proofs.digit_of.Lts as lts
 
 cast-result : tie.Need-cast-result
 cast-result c = search needs

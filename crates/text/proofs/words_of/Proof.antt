@@ -1,15 +1,15 @@
--- `frames::words_of` meets its contract. Assumes nothing.
-use Rattle.frames.proofs.Read.{Taken, taken-none, words-next, words-part, words-end}
+-- `text::words_of` meets its contract. Assumes nothing.
+use Rattle.text.proofs.Read.{Taken, taken-none, words-next, words-part, words-end}
 use Rattle.kdb.specs.Frames.{wordsOf}
 use lib.ListN.{length}
 use Prim.Native.Nat.{_-_}
 use borrow.Author.Needs.{needs}
 use native.Mathlib.Omega.{arith}
-use Rattle.frames.proofs.words_of.Statement.{statement}
-use Rattle.frames.proofs.words_of.Tie as tie
-use Rattle.frames.proofs.words_of.Reads as reads
-use Rattle.frames.proofs.words_of.Lts as lts
-use Rattle.frames.proofs.word_value.Reads as word-value-reads
+use Rattle.text.proofs.words_of.Statement.{statement}
+use Rattle.text.proofs.words_of.Tie as tie
+use Rattle.text.proofs.words_of.Reads as reads
+use Rattle.text.proofs.words_of.Lts as lts
+use Rattle.text.proofs.word_value.Reads as word-value-reads
 
 abbrev Inv-loop : tie.InvT-loop
 Inv-loop bytes words₀ n₀ words n = Taken wordsOf 4 16 bytes words n

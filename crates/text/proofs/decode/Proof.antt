@@ -1,15 +1,15 @@
--- `frames::decode` meets its contract. Assumes nothing.
-use Rattle.frames.proofs.Read.{Taken, taken-none, bytes-next, bytes-bad, bytes-odd, bytes-end}
+-- `text::decode` meets its contract. Assumes nothing.
+use Rattle.text.proofs.Read.{Taken, taken-none, bytes-next, bytes-bad, bytes-odd, bytes-end}
 use Rattle.kdb.specs.Frames.{bytesOf}
 use lib.ListN.{length}
 use Prim.Native.Nat.{_-_}
 use borrow.Author.Needs.{needs}
 use native.Mathlib.Omega.{arith}
-use Rattle.frames.proofs.decode.Statement.{statement}
-use Rattle.frames.proofs.decode.Tie as tie
-use Rattle.frames.proofs.decode.Reads as reads
-use Rattle.frames.proofs.decode.Lts as lts
-use Rattle.frames.proofs.pair_value.Reads as pair-value-reads
+use Rattle.text.proofs.decode.Statement.{statement}
+use Rattle.text.proofs.decode.Tie as tie
+use Rattle.text.proofs.decode.Reads as reads
+use Rattle.text.proofs.decode.Lts as lts
+use Rattle.text.proofs.pair_value.Reads as pair-value-reads
 
 abbrev Inv-loop : tie.InvT-loop
 Inv-loop line bytes₀ n₀ bytes n = Taken bytesOf 2 64 line bytes n

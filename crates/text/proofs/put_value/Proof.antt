@@ -1,12 +1,12 @@
--- `frames::put_value` meets its contract. Assumes nothing.
-use Rattle.frames.proofs.Write.{written-none}
+-- `text::put_value` meets its contract. Assumes nothing.
+use Rattle.text.proofs.Write.{written-none}
 use borrow.Author.Needs.{needs}
 use native.Mathlib.Omega.{arith}
-use Rattle.frames.proofs.put_value.Statement.{statement}
-use Rattle.frames.proofs.put_value.Tie as tie
-use Rattle.frames.proofs.put_value.Reads as reads
-use Rattle.frames.proofs.put_value.Lts as lts
-use Rattle.frames.proofs.put_hex.Reads as put-hex-reads
+use Rattle.text.proofs.put_value.Statement.{statement}
+use Rattle.text.proofs.put_value.Tie as tie
+use Rattle.text.proofs.put_value.Reads as reads
+use Rattle.text.proofs.put_value.Lts as lts
+use Rattle.text.proofs.put_hex.Reads as put-hex-reads
 
 put-hex-requires : tie.Need-put-hex-requires
 put-hex-requires c κs = search needs

@@ -14,7 +14,7 @@ use borrow.Author.Tests.{le-leb, lt-leb, lt-ltb, le-ltb}
 use Rattle.kdb.specs.Lists.{andThen}
 use Rattle.kdb.specs.Frames.{digit, between, bytesOf, wordsOf}
 use Rattle.kdb.proofs.Lists.{and-false, and-l, and-r, of-true, of-false, is-true}
-use Rattle.frames.specs.Text.{below, counted, pairOf, wordAt}
+use Rattle.text.specs.Text.{below, counted, pairOf, wordAt}
 
 -- a character in a range, under it and over it
 pub inside : (lo hi b : ℕ) → lo ≤ b → b ≤ hi → between lo hi b ≡ true

@@ -1,15 +1,15 @@
--- `frames::put_words` meets its contract. Assumes nothing.
-use Rattle.frames.proofs.Write.{Worded, worded-none, worded-next, worded-end, written-long, length-hex}
+-- `text::put_words` meets its contract. Assumes nothing.
+use Rattle.text.proofs.Write.{Worded, worded-none, worded-next, worded-end, written-long, length-hex}
 use Rattle.kdb.specs.Frames.{hex}
 use lib.ListN.{length}
 use Prim.Native.Nat.{_-_}
 use borrow.Author.Needs.{needs}
 use native.Mathlib.Omega.{arith}
-use Rattle.frames.proofs.put_words.Statement.{statement}
-use Rattle.frames.proofs.put_words.Tie as tie
-use Rattle.frames.proofs.put_words.Reads as reads
-use Rattle.frames.proofs.put_words.Lts as lts
-use Rattle.frames.proofs.put_hex.Reads as put-hex-reads
+use Rattle.text.proofs.put_words.Statement.{statement}
+use Rattle.text.proofs.put_words.Tie as tie
+use Rattle.text.proofs.put_words.Reads as reads
+use Rattle.text.proofs.put_words.Lts as lts
+use Rattle.text.proofs.put_hex.Reads as put-hex-reads
 
 abbrev Inv-loop : tie.InvT-loop
 Inv-loop out₀ at words i₀ next₀ out i next = Worded (hex 8) out₀ at words out i next

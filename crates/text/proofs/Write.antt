@@ -12,7 +12,7 @@ use borrow.Author.Tests.{lt-ltb}
 use Rattle.kdb.specs.Lists.{gather}
 use Rattle.kdb.specs.Frames.{digitOf, hex}
 use Rattle.kdb.proofs.Lists.{sets-append, set-past, gather-append}
-use Rattle.frames.specs.Text.{Written, valuesOf, textOf}
+use Rattle.text.specs.Text.{Written}
 
 pub length-hex : (n v : ℕ) → length (hex n v) ≡ n
 length-hex zero v = refl
@@ -22,7 +22,7 @@ length-hex (suc n) v = length-append (hex n (v / 16)) (digitOf (v % 16) ∷ []) 
 pub written-then : {a b c t u : List ℕ} {i j k : ℕ} → Written a i t b j → Written b j u c k → Written a i (t ++ u) c k
 written-then {a} {b} {c} {t} {u} {i} {j} {k} p q =
     record {
-      stands = q .stands ∙ ap₂ (λ x n. sets x n u) (p .stands) (p .follows) ∙ sym (sets-append t u a i);
+      stands = q .stands ∙ ap₂ (λ x n. sets x n u) (p .stands) (p .follows) ∙ sets-append a i t u;
       follows = omega (arith, p .follows, q .follows, length-append t u);
     }
 
@@ -45,7 +45,7 @@ hexed-turn old out at n v l rest h =
     let xs = hex l (rest / 16) in
     let m : at + length xs ≡ at + l = omega (arith, length-hex l (rest / 16)) in
     record {
-      so = sym (set-past out at xs (at + l) d (omega arith)) ∙ ap (λ i. set (sets out at xs) i d) (sym m) ∙ sym (sets-append xs (d ∷ []) out at) ∙ h .so;
+      so = sym (set-past out at xs (at + l) d (omega arith)) ∙ ap (λ i. set (sets out at xs) i d) (sym m) ∙ sets-append out at xs (d ∷ []) ∙ h .so;
       few = omega arith;
       long = simp length-set (h .long);
     }
@@ -88,18 +88,3 @@ module _ (g : ℕ → List ℕ) where
 -- a line feed
 pub written-feed : (a : List ℕ) (i : ℕ) → Written a i (10 ∷ []) (set a i 10) (i + 1)
 written-feed a i = record { stands = refl; follows = refl }
-
--- the values, each if it is there
-gather-values : (g : ℕ → List ℕ) (count a b : ℕ) → gather g (valuesOf count a b) ≡ cond (ltb 0 count) (g a) [] ++ cond (ltb 1 count) (g b) []
-gather-values g zero a b = refl
-gather-values g (suc zero) a b = refl
-gather-values g (suc (suc n)) a b =
-    rw (lt-ltb 0 (suc (suc n)) (omega arith), lt-ltb 1 (suc (suc n)) (omega arith), take-nil n, append-nil (g b))
-
--- the parts of an answer, one after the other
-pub answer-parts : (number count first second : ℕ) (found : List ℕ) {o p q r s : List ℕ} {at i j k l : ℕ}
-    → Written o at (hex 2 number) p i → Written p i (cond (ltb 0 count) (hex 8 first) []) q j → Written q j (cond (ltb 1 count) (hex 8 second) []) r k
-    → Written r k (gather (hex 8) found) s l → Written o at (textOf number (valuesOf count first second) found) (set s l 10) (l + 1)
-unfolding textOf
-answer-parts number count first second found {o} {p} {q} {r} {s} {at} {i} {j} {k} {l} a b c d =
-    rw (gather-values (hex 8) count first second) (written-then a (written-then (written-then b c) (written-then d (written-feed s l))))

@@ -1,12 +1,12 @@
--- `frames::put` meets its contract. Assumes nothing.
+-- `text::put` meets its contract. Assumes nothing.
 use mathlib.Core.Path.{sym}
 use lib.Seq.{set-out}
 use borrow.Author.Needs.{needs}
 use native.Mathlib.Omega.{arith}
-use Rattle.frames.proofs.put.Statement.{statement}
-use Rattle.frames.proofs.put.Tie as tie
-use Rattle.frames.proofs.put.Reads as reads
-use Rattle.frames.proofs.put.Lts as lts
+use Rattle.text.proofs.put.Statement.{statement}
+use Rattle.text.proofs.put.Tie as tie
+use Rattle.text.proofs.put.Reads as reads
+use Rattle.text.proofs.put.Lts as lts
 
 slice-write-out : tie.Need-slice-write-out
 slice-write-out c = search needs

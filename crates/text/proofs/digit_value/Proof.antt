@@ -1,13 +1,13 @@
--- `frames::digit_value` meets its contract. Assumes nothing.
-use Rattle.frames.proofs.Read.{inside, under, over}
+-- `text::digit_value` meets its contract. Assumes nothing.
+use Rattle.text.proofs.Read.{inside, under, over}
 use borrow.Author.Tests.{lt-ltb}
 use borrow.Author.Needs.{needs}
 use Prim.Native.Nat.{_-_}
 use native.Mathlib.Omega.{arith}
-use Rattle.frames.proofs.digit_value.Statement.{statement}
-use Rattle.frames.proofs.digit_value.Tie as tie
-use Rattle.frames.proofs.digit_value.Reads as reads
-use Rattle.frames.proofs.digit_value.Lts as lts
+use Rattle.text.proofs.digit_value.Statement.{statement}
+use Rattle.text.proofs.digit_value.Tie as tie
+use Rattle.text.proofs.digit_value.Reads as reads
+use Rattle.text.proofs.digit_value.Lts as lts
 
 sub-result : tie.Need-sub-result
 sub-result c = search needs

@@ -1,12 +1,12 @@
--- `frames::byte_at` meets its contract. Assumes nothing.
+-- `text::byte_at` meets its contract. Assumes nothing.
 use lib.ListN.{List·getD-eq-default}
 use mathlib.Core.Path.{refl, sym}
 use borrow.Author.Needs.{needs}
 use native.Mathlib.Omega.{arith}
-use Rattle.frames.proofs.byte_at.Statement.{statement}
-use Rattle.frames.proofs.byte_at.Tie as tie
-use Rattle.frames.proofs.byte_at.Reads as reads
-use Rattle.frames.proofs.byte_at.Lts as lts
+use Rattle.text.proofs.byte_at.Statement.{statement}
+use Rattle.text.proofs.byte_at.Tie as tie
+use Rattle.text.proofs.byte_at.Reads as reads
+use Rattle.text.proofs.byte_at.Lts as lts
 
 shared-slice-read-result : tie.Need-shared-slice-read-result
 shared-slice-read-result c = search needs
