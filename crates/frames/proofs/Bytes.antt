@@ -12,12 +12,13 @@ use lib.Seq.{sets, take-all, take-suc, take-suc-set, length-take-le}
 use borrow.Author.Tests.{le-leb, lt-leb, lt-ltb, le-ltb, eq-eqb, ne-eqb}
 use Rattle.kdb.specs.Frames.{Reply}
 use Rattle.kdb.proofs.Lists.{bool}
-use Rattle.frames.specs.Stream.{Stage, longer, closed, asked, workAfter, next, said, after, wrote}
+use Rattle.replies.specs.Reply.{workAfter, Sized, Replied}
+use Rattle.frames.specs.Stream.{Stage, longer, closed, asked, next, said, after, wrote}
 use Rattle.text.specs.Text.{counted, Written}
-use Rattle.frames.specs.State.{Store, storeOf, stageOf, stored, kept, Sized, Replied, Stepped, Fed}
+use Rattle.frames.specs.State.{Store, storeOf, stageOf, stored, kept, Stepped, Fed}
 use Rattle.frames.proofs.Stream.{after-append, wrote-append}
 use Rattle.text.proofs.Write.{written-none, written-then}
-use Rattle.frames.proofs.Replies.{counted-some, counted-none, stands}
+use Rattle.replies.proofs.Replies.{counted-some, counted-none, stands}
 
 -- a character is kept, or one too many is not
 push-more : (line : List ℕ) (d b : ℕ) → length line ≡ 128 → d < 128 → counted 128 (d + 1) (set line d b) ≡ longer (counted 128 d line) b

@@ -1,4 +1,3 @@
 pub mod Stream
-pub mod Replies
-pub mod Answers
+pub mod Lines
 pub mod Bytes

@@ -1,3 +1,2 @@
 pub mod Stream
-pub mod Answer
 pub mod State

@@ -3,25 +3,13 @@
 use mathlib.Core.Bool.{cond}
 use mathlib.Core.List.{List, [], _∷_}
 use mathlib.Core.Path.{_≡_}
-use Prim.Native.Nat.{ℕ, _+_, _≤_, _<_, _^_, min}
+use Prim.Native.Nat.{ℕ, _+_, _≤_, _<_, min}
 use lib.Dec.{eqb}
-use lib.ListN.{length, getD, take, set}
+use lib.ListN.{length, take, set}
 use lib.Seq.{sets}
-use Rattle.kdb.specs.Calls.{remove, find, list, Outcome}
-use Rattle.kdb.specs.Frames.{Frame, call, slots, Reply}
 use Rattle.text.specs.Text.{counted, Written}
-use Rattle.frames.specs.Answer.{valuesOf}
-use Rattle.frames.specs.Stream.{Stage, closed, asked, workAfter, next, said, after, wrote}
-
--- what the frames of words ask
-abbrev pub removeOf : List ℕ → Frame
-removeOf ws = call (λ work. remove ws)
-
-abbrev pub findOf : List ℕ → Frame
-findOf ws = call (λ work. find ws)
-
-abbrev pub listOf : List ℕ → Frame
-listOf ws = call (λ work. list ws slots)
+use Rattle.replies.specs.Reply.{workAfter}
+use Rattle.frames.specs.Stream.{Stage, closed, asked, next, said, after, wrote}
 
 -- all that is kept between two bytes: the pool's words, the characters of the line so far, and the three buffers
 pub record Store : Type 0 where
@@ -56,26 +44,6 @@ abbrev pub kept : Store → List ℕ → Store
 kept m [] = m
 kept m (b ∷ bs) = kept (stored m b) bs
 
--- the buffers' sizes, and a place in the output from which an answer's 531 bytes can be counted
-pub record Sized (pool work : List ℕ) (words at : ℕ) : Type 0 where
-  pub pool-long : length pool ≡ 16384
-  pub work-long : length work ≡ 16384
-  pub within : words ≤ 16384
-  pub room : at + 531 ≤ 2 ^ 63
-
--- a reply stands in the buffers: its pool at the front of the pool's buffer, its text from `at` on in the output, and nothing else is changed
-pub record Replied (r : Reply) (pool out : List ℕ) (at : ℕ) (pool′ out′ : List ℕ) (words at′ : ℕ) : Type 0 where
-  pub holds : pool′ ≡ sets pool 0 (r .pool)
-  pub long : words ≡ length (r .pool)
-  pub text : Written out at (r .text) out′ at′
-  pub room : at′ ≤ at + 531
-  pub within : words ≤ 16384
-
--- FF is written
-pub record Unframed (out : List ℕ) (at : ℕ) (out′ : List ℕ) (at′ : ℕ) : Type 0 where
-  pub text : Written out at (70 ∷ 70 ∷ 10 ∷ []) out′ at′
-  pub room : at′ ≤ at + 531
-
 -- all that is kept, and the output, after one byte
 pub record Stepped (m : Store) (b : ℕ) (out : List ℕ) (at : ℕ) (m′ : Store) (out′ : List ℕ) (at′ : ℕ) : Type 0 where
   pub store : m′ ≡ stored m b
@@ -93,9 +61,3 @@ pub record Fed (m : Store) (piece out : List ℕ) (m′ : Store) (out′ : List 
   pub within : taken ≤ length piece
   pub goes : (t : ℕ) → t < taken → length (wrote (stageOf m) (take t piece)) + 531 ≤ length out
   pub stops : taken < length piece → length out < written + 531
-
--- a number and values are an outcome's; with no values the first is 0
-pub record Spoken (o : Outcome) (number count first second : ℕ) : Type 0 where
-  pub number-is : number ≡ o .number
-  pub values-are : valuesOf count first second ≡ o .values
-  pub first-is : first ≡ getD (o .values) 0 0

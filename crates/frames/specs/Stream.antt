@@ -5,10 +5,8 @@ use mathlib.Core.List.{List, [], _∷_, _++_}
 use mathlib.Core.Option.{Option, none, some}
 use Prim.Native.Nat.{ℕ}
 use lib.Dec.{ltb, eqb}
-use lib.ListN.{length, take}
-use lib.Seq.{sets}
-use Rattle.kdb.specs.Calls.{Outcome, outcome}
-use Rattle.kdb.specs.Frames.{Frame, new, call, unknown, parse, Reply, refusal, reply}
+use lib.ListN.{length}
+use Rattle.kdb.specs.Frames.{Frame, unknown, parse, Reply, refusal, reply}
 
 -- the pool, and the line so far; none for a line of more than 128 characters
 pub record Stage : Type 0 where
@@ -30,12 +28,6 @@ closed s = elim (s .line) [ none ↦ refusal (s .pool) | some line ↦ reply (s 
 abbrev pub asked : Option (List ℕ) → Frame
 asked none = unknown
 asked (some line) = parse line
-
--- the work buffer after a frame: a call is lent as many of its words as the pool has, and place alone writes them, where it answers 0 or 9
-abbrev pub workAfter : List ℕ → List ℕ → Frame → List ℕ
-workAfter w work (new k n) = work
-workAfter w work (call c) = sets work 0 (outcome w (c (take (length w) work)) .after .work)
-workAfter w work unknown = work
 
 -- a byte gives the next stage and what is written
 unfoldable pub next : Stage → ℕ → Stage

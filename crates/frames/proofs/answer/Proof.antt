@@ -1,12 +1,12 @@
 -- `frames::answer` meets its contract. Assumes nothing.
-use Rattle.frames.proofs.Replies.{take-within}
+use Rattle.frames.proofs.Lines.{take-within}
 use borrow.Author.Needs.{needs}
 use native.Mathlib.Omega.{arith}
 use Rattle.frames.proofs.answer.Statement.{statement}
 use Rattle.frames.proofs.answer.Tie as tie
 use Rattle.frames.proofs.answer.Reads as reads
 use Rattle.frames.proofs.answer.Lts as lts
-use Rattle.frames.proofs.at_most.Reads as at-most-reads
+use Rattle.replies.proofs.at_most.Reads as at-most-reads
 use Rattle.frames.proofs.line_answer.Reads as line-answer-reads
 
 at-most-requires : tie.Need-at-most-requires

@@ -1,5 +1,5 @@
 -- `frames::close` meets its contract. Assumes nothing.
-use Rattle.frames.proofs.Replies.{unframed, counted-some, counted-none}
+use Rattle.replies.proofs.Replies.{unframed, counted-some, counted-none}
 use lib.Seq.{length-take-le}
 use mathlib.Core.Path.{refl, sym}
 use borrow.Author.Needs.{needs}
@@ -9,7 +9,7 @@ use Rattle.frames.proofs.close.Tie as tie
 use Rattle.frames.proofs.close.Reads as reads
 use Rattle.frames.proofs.close.Lts as lts
 use Rattle.frames.proofs.line_answer.Reads as line-answer-reads
-use Rattle.frames.proofs.no_frame.Reads as no-frame-reads
+use Rattle.replies.proofs.no_frame.Reads as no-frame-reads
 
 no-frame-requires : tie.Need-no-frame-requires
 no-frame-requires c κs = search needs

@@ -5,7 +5,7 @@ use Rattle.frames.proofs.feed.Statement.{statement}
 use Rattle.frames.proofs.feed.Tie as tie
 use Rattle.frames.proofs.feed.Reads as reads
 use Rattle.frames.proofs.feed.Lts as lts
-use Rattle.frames.proofs.at_most.Reads as at-most-reads
+use Rattle.replies.proofs.at_most.Reads as at-most-reads
 use Rattle.frames.proofs.feed_all.Reads as feed-all-reads
 
 at-most-requires : tie.Need-at-most-requires

@@ -1,12 +1,12 @@
 -- `frames::finish` meets its contract. Assumes nothing.
-use Rattle.frames.proofs.Replies.{take-within}
+use Rattle.frames.proofs.Lines.{take-within}
 use borrow.Author.Needs.{needs}
 use native.Mathlib.Omega.{arith}
 use Rattle.frames.proofs.finish.Statement.{statement}
 use Rattle.frames.proofs.finish.Tie as tie
 use Rattle.frames.proofs.finish.Reads as reads
 use Rattle.frames.proofs.finish.Lts as lts
-use Rattle.frames.proofs.at_most.Reads as at-most-reads
+use Rattle.replies.proofs.at_most.Reads as at-most-reads
 use Rattle.frames.proofs.close.Reads as close-reads
 
 at-most-requires : tie.Need-at-most-requires

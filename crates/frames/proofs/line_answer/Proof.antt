@@ -1,6 +1,7 @@
 -- `frames::line_answer` meets its contract. Assumes nothing.
 use lib.ListN.{take, length-take}
-use Rattle.frames.proofs.Replies.{unframed, laid-same, reply-empty, reply-bytes, parse-empty, parse-long, parse-bytes, counted-some, counted-none}
+use Rattle.replies.proofs.Replies.{unframed, laid-same, counted-some, counted-none}
+use Rattle.frames.proofs.Lines.{reply-empty, reply-bytes, parse-empty, parse-long, parse-bytes}
 use Rattle.text.proofs.Write.{written-none}
 use Rattle.kdb.proofs.Frames.{reply-long}
 use lib.Seq.{length-take-le}
@@ -12,8 +13,8 @@ use Rattle.frames.proofs.line_answer.Tie as tie
 use Rattle.frames.proofs.line_answer.Reads as reads
 use Rattle.frames.proofs.line_answer.Lts as lts
 use Rattle.text.proofs.decode.Reads as decode-reads
-use Rattle.frames.proofs.frame.Reads as frame-reads
-use Rattle.frames.proofs.no_frame.Reads as no-frame-reads
+use Rattle.replies.proofs.frame.Reads as frame-reads
+use Rattle.replies.proofs.no_frame.Reads as no-frame-reads
 
 returns : tie.Need-returns
 returns c = let a = c .before .before .before .before .before .args in

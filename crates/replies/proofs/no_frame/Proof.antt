@@ -1,0 +1,21 @@
+-- `replies::no_frame` meets its contract. Assumes nothing.
+use Rattle.replies.proofs.Replies.{ff}
+use borrow.Author.Needs.{needs}
+use native.Mathlib.Omega.{arith}
+use Rattle.replies.proofs.no_frame.Statement.{statement}
+use Rattle.replies.proofs.no_frame.Tie as tie
+use Rattle.replies.proofs.no_frame.Reads as reads
+use Rattle.replies.proofs.no_frame.Lts as lts
+use Rattle.replies.proofs.refuse.Reads as refuse-reads
+
+refuse-requires : tie.Need-refuse-requires
+refuse-requires c κs = search needs
+
+same-length : tie.Need-same-length
+same-length c = search needs
+
+returns : tie.Need-returns
+returns c = record { text = rw ff at (c .before .before .refuse .ensures .0); room = c .before .before .refuse .ensures .1 }
+
+pub no-frame-spec : {M : Type 1} → statement M
+no-frame-spec = tie.close (tie.spec refuse-requires same-length returns)
