@@ -1,3 +1,4 @@
 pub mod Stream
 pub mod Lines
 pub mod Bytes
+pub mod Once
