@@ -6,7 +6,7 @@ ghost use lib.ListN.{length, getD, set, replicate};
 ghost use lib.Seq.{sets};
 ghost use Rattle.kdb.specs.Pool.{goodHeader};
 ghost use Rattle.kdb.specs.Calls.{L, finite};
-ghost use Rattle.words.specs.Words.{wordAt, pageCount, Paged, capacityOf, pointKey, pointLocation, lowestFree, allZero};
+ghost use Rattle.words.specs.Words.{wordAt, pageCount, Paged, capacityOf, pointAt, pointKey, pointLocation, lowestFree, allZero};
 
 // Regions and points a page, by K from 1 to 4.
 const CAPACITIES: [[u32; 4]; 2] = [[9, 5, 4, 3], [14, 9, 7, 5]];
@@ -141,12 +141,20 @@ pub fn points_per(k: usize) -> usize
     capacity(1, k)
 }
 
+// The word at which the record in a slot of point page j begins: its keys, then its location.
+pub fn point_at(k: usize, j: usize, slot: usize) -> usize
+    requires { ⌜ (k ≤ 4) × ((j < 2 ^ 32) × (slot < 2 ^ 32)) ⌝ }
+    ensures { λ r. ⌜ (r ≡ pointAt k j slot) × (r < 2 ^ 40) ⌝ }
+{
+    32 * j + 4 + slot * (k + 1)
+}
+
 // The key in domain d of the record in a slot of point page j.
 pub fn point_key(pool: &[u32], k: usize, j: usize, slot: usize, d: usize) -> usize
     requires { ⌜ (k ≤ 4) × ((j < 2 ^ 32) × ((slot < 2 ^ 32) × (d ≤ 4))) ⌝ }
     ensures { λ r. ⌜ (r ≡ pointKey (now (pool .entry)) k j slot d) × (r < 2 ^ 32) ⌝ }
 {
-    get(pool, 32 * j + 4 + slot * (k + 1) + d)
+    get(pool, point_at(k, j, slot) + d)
 }
 
 // The location of the record in a slot of point page j.
@@ -154,7 +162,7 @@ pub fn point_location(pool: &[u32], k: usize, j: usize, slot: usize) -> usize
     requires { ⌜ (k ≤ 4) × ((j < 2 ^ 32) × (slot < 2 ^ 32)) ⌝ }
     ensures { λ r. ⌜ (r ≡ pointLocation (now (pool .entry)) k j slot) × (r < 2 ^ 32) ⌝ }
 {
-    get(pool, 32 * j + 4 + slot * (k + 1) + k)
+    get(pool, point_at(k, j, slot) + k)
 }
 
 // The lower end in domain d of the region entry at word `at`.
