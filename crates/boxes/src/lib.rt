@@ -1,8 +1,6 @@
 // Tests of regions, windows and keys on the words of a pool, each a loop over the domains.
-use words::get;
-use words::lower_end;
-use words::point_key;
-use words::upper_end;
+use words::point_at;
+use words::read;
 ghost use mathlib.Core.Path.{_≡_};
 ghost use Prim.Native.Nat.{ℕ, _+_, _*_, _≤_, _<_, _^_, max};
 ghost use lib.ListN.{length};
@@ -25,8 +23,8 @@ pub fn point_in(pool: &[u32], k: usize, at: usize, point: &[u32]) -> bool
     let mut ok = true;
     let mut d: usize = 0;
     while d < k {
-        let key = get(point, d);
-        ok = ok & ((lower_end(pool, at, d) <= key) & (key < upper_end(pool, k, at, d)));
+        let key = read(point, d);
+        ok = ok & ((read(pool, at + d) <= key) & (key < read(pool, at + k + d)));
         d += 1;
     }
     ok
@@ -40,8 +38,8 @@ pub fn meets_window(pool: &[u32], k: usize, at: usize, window: &[u32]) -> bool
     let mut ok = true;
     let mut d: usize = 0;
     while d < k {
-        let low = larger(lower_end(pool, at, d), get(window, d));
-        ok = ok & ((low < upper_end(pool, k, at, d)) & (low <= get(window, k + d)));
+        let low = larger(read(pool, at + d), read(window, d));
+        ok = ok & ((low < read(pool, at + k + d)) & (low <= read(window, k + d)));
         d += 1;
     }
     ok
@@ -52,11 +50,12 @@ pub fn in_window(pool: &[u32], k: usize, j: usize, slot: usize, window: &[u32]) 
     requires { ⌜ RecordIn (now pool) k j slot × (length (now window) ≡ 2 * k) ⌝ }
     ensures { λ r. ⌜ r ≡ inWindow (windowOf k (now (window .entry))) (keysOf k (now (pool .entry)) j slot) ⌝ }
 {
+    let at = point_at(k, j, slot);
     let mut ok = true;
     let mut d: usize = 0;
     while d < k {
-        let key = point_key(pool, k, j, slot, d);
-        ok = ok & ((get(window, d) <= key) & (key <= get(window, k + d)));
+        let key = read(pool, at + d);
+        ok = ok & ((read(window, d) <= key) & (key <= read(window, k + d)));
         d += 1;
     }
     ok
@@ -67,10 +66,11 @@ pub fn same_keys(pool: &[u32], k: usize, j: usize, slot: usize, point: &[u32]) -
     requires { ⌜ RecordIn (now pool) k j slot × (length (now point) ≡ k) ⌝ }
     ensures { λ r. ⌜ r ≡ same (now (point .entry)) (keysOf k (now (pool .entry)) j slot) ⌝ }
 {
+    let at = point_at(k, j, slot);
     let mut ok = true;
     let mut d: usize = 0;
     while d < k {
-        ok = ok & (get(point, d) == point_key(pool, k, j, slot, d));
+        ok = ok & (read(point, d) == read(pool, at + d));
         d += 1;
     }
     ok
@@ -84,7 +84,7 @@ pub fn ordered_window(window: &[u32], k: usize) -> bool
     let mut ok = true;
     let mut d: usize = 0;
     while d < k {
-        ok = ok & (get(window, d) <= get(window, k + d));
+        ok = ok & (read(window, d) <= read(window, k + d));
         d += 1;
     }
     ok

@@ -68,7 +68,7 @@ regionAt k w a = sides (take k (drop a w)) (take k (drop (a + k) w))
 abbrev pub keysOf : ℕ → List ℕ → ℕ → ℕ → Key
 keysOf k w j e = take k (drop (pointAt k j e) w)
 
--- the region at word a, and the record in slot e of page j, end within the pool
+-- the region at word a, and the record in slot e of page j, with its location, end within the pool
 pub record RegionIn (w : List ℕ) (k a : ℕ) : Type 0 where
   pub few : k ≤ 4
   pub near : a < 2 ^ 40
@@ -78,4 +78,4 @@ pub record RecordIn (w : List ℕ) (k j e : ℕ) : Type 0 where
   pub few : k ≤ 4
   pub page : j < 2 ^ 32
   pub slot : e < 2 ^ 32
-  pub ends : pointAt k j e + k ≤ length w
+  pub ends : pointAt k j e + k < length w

@@ -1,12 +1,12 @@
 // Words of a lent pool: what is read and written of a page, and nothing of the tree.
 ghost use mathlib.Core.Path.{_≡_};
 ghost use mathlib.Core.List.{List, [], _∷_};
-ghost use Prim.Native.Nat.{ℕ, _+_, _*_, _-_, _≤_, _<_, _^_};
+ghost use Prim.Native.Nat.{ℕ, _+_, _*_, _-_, _≤_, _<_, _^_, min};
 ghost use lib.ListN.{length, getD, set, replicate};
 ghost use lib.Seq.{sets};
 ghost use Rattle.kdb.specs.Pool.{goodHeader};
 ghost use Rattle.kdb.specs.Calls.{L, finite};
-ghost use Rattle.words.specs.Words.{wordAt, pageCount, Paged, capacityOf, pointKey, pointLocation, lowestFree, allZero};
+ghost use Rattle.words.specs.Words.{wordAt, pageCount, Paged, capacityOf, pointAt, pointKey, pointLocation, lowestFree, allZero};
 
 // Regions and points a page, by K from 1 to 4.
 const CAPACITIES: [[u32; 4]; 2] = [[9, 5, 4, 3], [14, 9, 7, 5]];
@@ -60,17 +60,31 @@ pub fn page_count(pool: &[u32]) -> usize
     }
 }
 
-// The words from `from` to `to` are 0.
-pub fn zeros(pool: &[u32], from: usize, to: usize) -> bool
+fn smaller(a: usize, b: usize) -> usize
+    ensures { λ r. ⌜ r ≡ min a b ⌝ }
+{
+    if a < b { a } else { b }
+}
+
+// The words from `from` to `to`, which are the pool's, are 0.
+pub fn zeros_in(pool: &[u32], from: usize, to: usize) -> bool
+    requires { ⌜ to ≤ length (now pool) ⌝ }
     ensures { λ r. ⌜ r ≡ allZero (now (pool .entry)) from (to - from) ⌝ }
 {
     let mut ok = true;
     let mut i = from;
     while i < to {
-        ok = ok & (0 == get(pool, i));
+        ok = ok & (0 == read(pool, i));
         i += 1;
     }
     ok
+}
+
+// The words from `from` to `to` are 0.
+pub fn zeros(pool: &[u32], from: usize, to: usize) -> bool
+    ensures { λ r. ⌜ r ≡ allZero (now (pool .entry)) from (to - from) ⌝ }
+{
+    zeros_in(pool, from, smaller(to, pool.len()))
 }
 
 // The header of a pool of n pages is good.
@@ -78,16 +92,16 @@ pub fn good_header(pool: &[u32], n: usize) -> bool
     requires { ⌜ Paged (now pool) n ⌝ }
     ensures { λ r. ⌜ r ≡ goodHeader L (now (pool .entry)) ⌝ }
 {
-    let k = get(pool, 0);
-    let root = get(pool, 2);
-    let levels = get(pool, 3);
+    let k = read(pool, 0);
+    let root = read(pool, 2);
+    let levels = read(pool, 3);
     (1 <= k)
         & (k <= 4)
-        & (get(pool, 1) == n)
+        & (read(pool, 1) == n)
         & (root < n)
         & (levels <= n - 1)
         & (((root == 0) & (levels == 0)) | ((root != 0) & (levels != 0)))
-        & zeros(pool, 5, 32)
+        & zeros_in(pool, 5, 32)
 }
 
 // No word is the word that stands for ∞.
@@ -97,7 +111,7 @@ pub fn all_finite(x: &[u32]) -> bool
     let mut ok = true;
     let mut i: usize = 0;
     while i < x.len() {
-        ok = ok & (get(x, i) < 4294967295);
+        ok = ok & (read(x, i) < 4294967295);
         i += 1;
     }
     ok
@@ -127,12 +141,20 @@ pub fn points_per(k: usize) -> usize
     capacity(1, k)
 }
 
+// The word at which the record in a slot of point page j begins: its keys, then its location.
+pub fn point_at(k: usize, j: usize, slot: usize) -> usize
+    requires { ⌜ (k ≤ 4) × ((j < 2 ^ 32) × (slot < 2 ^ 32)) ⌝ }
+    ensures { λ r. ⌜ (r ≡ pointAt k j slot) × (r < 2 ^ 40) ⌝ }
+{
+    32 * j + 4 + slot * (k + 1)
+}
+
 // The key in domain d of the record in a slot of point page j.
 pub fn point_key(pool: &[u32], k: usize, j: usize, slot: usize, d: usize) -> usize
     requires { ⌜ (k ≤ 4) × ((j < 2 ^ 32) × ((slot < 2 ^ 32) × (d ≤ 4))) ⌝ }
     ensures { λ r. ⌜ (r ≡ pointKey (now (pool .entry)) k j slot d) × (r < 2 ^ 32) ⌝ }
 {
-    get(pool, 32 * j + 4 + slot * (k + 1) + d)
+    get(pool, point_at(k, j, slot) + d)
 }
 
 // The location of the record in a slot of point page j.
@@ -140,7 +162,7 @@ pub fn point_location(pool: &[u32], k: usize, j: usize, slot: usize) -> usize
     requires { ⌜ (k ≤ 4) × ((j < 2 ^ 32) × (slot < 2 ^ 32)) ⌝ }
     ensures { λ r. ⌜ (r ≡ pointLocation (now (pool .entry)) k j slot) × (r < 2 ^ 32) ⌝ }
 {
-    get(pool, 32 * j + 4 + slot * (k + 1) + k)
+    get(pool, point_at(k, j, slot) + k)
 }
 
 // The lower end in domain d of the region entry at word `at`.
@@ -171,9 +193,10 @@ pub fn child(pool: &[u32], k: usize, at: usize) -> usize
 pub fn copy(to: &mut [u32], from: &[u32])
     ensures { λ _. ⌜ now (to .exit) ≡ sets (now (to .entry)) 0 (now (from .entry)) ⌝ }
 {
+    let end = smaller(to.len(), from.len());
     let mut i: usize = 0;
-    while i < from.len() {
-        put(to, i, get(from, i));
+    while i < end {
+        to[i] = from[i];
         i += 1;
     }
 }
@@ -182,9 +205,10 @@ pub fn copy(to: &mut [u32], from: &[u32])
 pub fn clear(x: &mut [u32], from: usize, to: usize)
     ensures { λ _. ⌜ now (x .exit) ≡ sets (now (x .entry)) from (replicate (to - from) 0) ⌝ }
 {
+    let end = smaller(to, x.len());
     let mut i = from;
-    while i < to {
-        put(x, i, 0);
+    while i < end {
+        x[i] = 0;
         i += 1;
     }
 }

@@ -21,14 +21,14 @@ abbrev μ-loop : tie.MeasureT-loop
 loop-holds : tie.Need-loop-holds Inv-loop μ-loop
 loop-holds c = let a = c .before .args in (omega arith, rw (sub-zero (a .k)) (tests.ordered-window (a .k) (a .window .now) (c .before .pre .1)))
 
-get-requires : tie.Need-get-requires Inv-loop μ-loop
-get-requires c κs = search needs
+read-requires : tie.Need-read-requires Inv-loop μ-loop
+read-requires c κs = search needs
 
-add-get : tie.Need-add-get Inv-loop μ-loop
-add-get c = search needs
+add-read : tie.Need-add-read Inv-loop μ-loop
+add-read c = search needs
 
-get-requires-2 : tie.Need-get-requires-2 Inv-loop μ-loop
-get-requires-2 c κs = search needs
+read-requires-2 : tie.Need-read-requires-2 Inv-loop μ-loop
+read-requires-2 c κs = search needs
 
 add-d : tie.Need-add-d Inv-loop μ-loop
 add-d c = search needs
@@ -37,7 +37,7 @@ loop-less : tie.Need-loop-less Inv-loop μ-loop
 loop-less c = search needs
 
 loop-again : tie.Need-loop-again Inv-loop μ-loop
-loop-again c = (omega arith, rw (c .before .get .ensures .0, c .get2 .ensures .0) (all-next _ _ _ _ _ _ _ (c .before .before .before .loop .inv .1) (omega arith)))
+loop-again c = (omega arith, rw (c .before .read .ensures .0, c .read2 .ensures .0) (all-next _ _ _ _ _ _ _ (c .before .before .before .loop .inv .1) (omega arith)))
 
 returns : tie.Need-returns Inv-loop μ-loop
 returns c = all-end _ _ _ _ _ _ _ (c .before .loop .inv .1) (omega arith)
@@ -49,9 +49,9 @@ ordered-window-spec =
     Inv-loop
     μ-loop
     loop-holds
-    get-requires
-    add-get
-    get-requires-2
+    read-requires
+    add-read
+    read-requires-2
     add-d
     loop-less
     loop-again

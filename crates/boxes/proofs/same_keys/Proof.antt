@@ -14,19 +14,25 @@ use Rattle.boxes.proofs.same_keys.Statement.{statement}
 use Rattle.boxes.proofs.same_keys.Tie as tie
 
 abbrev Inv-loop : tie.InvT-loop
-Inv-loop pool k j slot point ok₀ d₀ ok d = (d ≤ k) × (allBy (k - d) (sameAt pool k j slot point) 1 d ok ≡ same point (keysOf k pool j slot))
+Inv-loop pool k j slot point at ok₀ d₀ ok d = (d ≤ k) × (allBy (k - d) (sameAt pool k j slot point) 1 d ok ≡ same point (keysOf k pool j slot))
 
 abbrev μ-loop : tie.MeasureT-loop
-μ-loop pool k j slot point ok₀ d₀ ok d = k - d
+μ-loop pool k j slot point at ok₀ d₀ ok d = k - d
+
+point-at-requires : tie.Need-point-at-requires Inv-loop μ-loop
+point-at-requires c κs = search needs
 
 loop-holds : tie.Need-loop-holds Inv-loop μ-loop
-loop-holds c = let a = c .before .before .args in (omega arith, rw (sub-zero (a .k)) (tests.same-keys (a .pool .now) (a .k) (a .j) (a .slot) (c .before .before .pre .0) (a .point .now) (c .before .before .pre .1)))
+loop-holds c = let a = c .before .before .before .args in (omega arith, rw (sub-zero (a .k)) (tests.same-keys (a .pool .now) (a .k) (a .j) (a .slot) (c .before .before .before .pre .0) (a .point .now) (c .before .before .before .pre .1)))
 
-get-requires : tie.Need-get-requires Inv-loop μ-loop
-get-requires c κs = search needs
+read-requires : tie.Need-read-requires Inv-loop μ-loop
+read-requires c κs = search needs
 
-point-key-requires : tie.Need-point-key-requires Inv-loop μ-loop
-point-key-requires c κs = search needs
+add-read : tie.Need-add-read Inv-loop μ-loop
+add-read c = search needs
+
+read-requires-2 : tie.Need-read-requires-2 Inv-loop μ-loop
+read-requires-2 c κs = search needs
 
 add-d : tie.Need-add-d Inv-loop μ-loop
 add-d c = search needs
@@ -35,7 +41,7 @@ loop-less : tie.Need-loop-less Inv-loop μ-loop
 loop-less c = search needs
 
 loop-again : tie.Need-loop-again Inv-loop μ-loop
-loop-again c = (omega arith, rw (c .before .get .ensures .0, c .point-key .ensures .0) (all-next _ _ _ _ _ _ _ (c .before .before .before .loop .inv .1) (omega arith)))
+loop-again c = (omega arith, rw (c .before .read .ensures .0, c .read2 .ensures .0, c .before .before .before .before .point-at .ensures .0) (all-next _ _ _ _ _ _ _ (c .before .before .before .loop .inv .1) (omega arith)))
 
 returns : tie.Need-returns Inv-loop μ-loop
 returns c = all-end _ _ _ _ _ _ _ (c .before .loop .inv .1) (omega arith)
@@ -46,9 +52,11 @@ same-keys-spec =
     (tie.spec
     Inv-loop
     μ-loop
+    point-at-requires
     loop-holds
-    get-requires
-    point-key-requires
+    read-requires
+    add-read
+    read-requires-2
     add-d
     loop-less
     loop-again

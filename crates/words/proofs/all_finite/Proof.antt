@@ -23,8 +23,8 @@ abbrev μ-loop : tie.MeasureT-loop
 loop-holds : tie.Need-loop-holds Inv-loop μ-loop
 loop-holds c = (omega arith, rw (sub-zero (length (c .before .args .x .now))) (laws.all-finite (c .before .args .x .now)))
 
-get-requires : tie.Need-get-requires Inv-loop μ-loop
-get-requires c κs = search needs
+read-requires : tie.Need-read-requires Inv-loop μ-loop
+read-requires c κs = search needs
 
 add-i : tie.Need-add-i Inv-loop μ-loop
 add-i c = search needs
@@ -33,11 +33,11 @@ loop-less : tie.Need-loop-less Inv-loop μ-loop
 loop-less c = search needs
 
 loop-again : tie.Need-loop-again Inv-loop μ-loop
-loop-again c = (omega arith, rw (c .get .ensures .0) (all-next _ _ _ _ _ _ _ (c .before .before .loop .inv .1) (omega arith)))
+loop-again c = (omega arith, rw (c .read .ensures .0) (all-next _ _ _ _ _ _ _ (c .before .before .loop .inv .1) (omega arith)))
 
 returns : tie.Need-returns Inv-loop μ-loop
 returns c = all-end _ _ _ _ _ _ _ (c .before .loop .inv .1) (omega arith)
 
 pub all-finite-spec : {M : Type 1} → statement M
 all-finite-spec =
-    tie.close (tie.spec Inv-loop μ-loop loop-holds get-requires add-i loop-less loop-again returns)
+    tie.close (tie.spec Inv-loop μ-loop loop-holds read-requires add-i loop-less loop-again returns)

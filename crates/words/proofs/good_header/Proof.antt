@@ -6,23 +6,23 @@ use native.Mathlib.Omega.{arith}
 use Rattle.words.proofs.good_header.Statement.{statement}
 use Rattle.words.proofs.good_header.Tie as tie
 
-get-requires : tie.Need-get-requires
-get-requires c κs = search needs
+read-requires : tie.Need-read-requires
+read-requires c κs = search needs
 
-get-requires-2 : tie.Need-get-requires-2
-get-requires-2 c κs = search needs
+read-requires-2 : tie.Need-read-requires-2
+read-requires-2 c κs = search needs
 
-get-requires-3 : tie.Need-get-requires-3
-get-requires-3 c κs = search needs
+read-requires-3 : tie.Need-read-requires-3
+read-requires-3 c κs = search needs
 
-get-requires-4 : tie.Need-get-requires-4
-get-requires-4 c κs = search needs
+read-requires-4 : tie.Need-read-requires-4
+read-requires-4 c κs = search needs
 
 sub-result : tie.Need-sub-result
 sub-result c = omega (arith, c .before .before .before .before .before .pre .least)
 
-zeros-requires : tie.Need-zeros-requires
-zeros-requires c κs = search needs
+zeros-in-requires : tie.Need-zeros-in-requires
+zeros-in-requires c κs = search needs
 
 returns : tie.Need-returns
 unfolding goodHeader
@@ -32,10 +32,10 @@ pub good-header-spec : {M : Type 1} → statement M
 good-header-spec =
     tie.close
     (tie.spec
-    get-requires
-    get-requires-2
-    get-requires-3
-    get-requires-4
+    read-requires
+    read-requires-2
+    read-requires-3
+    read-requires-4
     sub-result
-    zeros-requires
+    zeros-in-requires
     returns)

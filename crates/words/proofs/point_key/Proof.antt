@@ -1,35 +1,20 @@
--- `words::point_key` meets its contract: the place of a slot's key does not wrap.
-use Rattle.words.proofs.Loops.{slot-near}
+-- `words::point_key` meets its contract: the place of a slot's key is where its record lies.
 use borrow.Author.Needs.{needs}
 use native.Mathlib.Omega.{arith}
 use Rattle.words.proofs.point_key.Statement.{statement}
 use Rattle.words.proofs.point_key.Tie as tie
 
-mul-get : tie.Need-mul-get
-mul-get c = search needs
+point-at-requires : tie.Need-point-at-requires
+point-at-requires c κs = search needs
 
 add-get : tie.Need-add-get
 add-get c = search needs
-
-add-get-2 : tie.Need-add-get-2
-add-get-2 c = search needs
-
-mul-get-2 : tie.Need-mul-get-2
-mul-get-2 c = omega (arith, slot-near (c .before .args .slot) (c .before .args .k) (c .before .pre .0))
-
-add-get-3 : tie.Need-add-get-3
-add-get-3 c = omega (arith, slot-near (c .before .args .slot) (c .before .args .k) (c .before .pre .0))
-
-add-get-4 : tie.Need-add-get-4
-add-get-4 c = omega (arith, slot-near (c .before .args .slot) (c .before .args .k) (c .before .pre .0))
 
 get-requires : tie.Need-get-requires
 get-requires c κs = search needs
 
 returns : tie.Need-returns
-returns c = search needs
+returns c = (rw (← c .before .point-at .ensures .0) (c .get .ensures .0), c .get .ensures .1)
 
 pub point-key-spec : {M : Type 1} → statement M
-point-key-spec =
-    tie.close
-    (tie.spec mul-get add-get add-get-2 mul-get-2 add-get-3 add-get-4 get-requires returns)
+point-key-spec = tie.close (tie.spec point-at-requires add-get get-requires returns)

@@ -1,38 +1,22 @@
--- `words::zeros` meets its contract: what is left to test, with the flag, gives what the whole gives.
-use Rattle.words.proofs.Loops.{all-end, all-next}
-use Rattle.words.specs.Words.{zeroAt, allZero}
-use Rattle.words.specs.Loops.{allBy}
-use mathlib.Core.Path.{_≡_, refl}
+-- `words::zeros` meets its contract: words past the end are 0.
+use Rattle.words.proofs.Loops.{zero-clamped}
+use mathlib.Core.Path.{_∙_}
+use mathlib.Core.Bool.{true}
 use Prim.Native.Nat.{_-_}
 use borrow.Author.Needs.{needs}
 use native.Mathlib.Omega.{arith}
 use Rattle.words.proofs.zeros.Statement.{statement}
 use Rattle.words.proofs.zeros.Tie as tie
 
-abbrev Inv-loop : tie.InvT-loop
-Inv-loop pool from to ok₀ i₀ ok i = allBy (to - i) (zeroAt pool) 1 i ok ≡ allZero pool from (to - from)
+smaller-requires : tie.Need-smaller-requires
+smaller-requires c κs = search needs
 
-abbrev μ-loop : tie.MeasureT-loop
-μ-loop pool from to ok₀ i₀ ok i = to - i
+zeros-in-requires : tie.Need-zeros-in-requires
+zeros-in-requires c κs = omega (arith, c .smaller .ensures)
 
-loop-holds : tie.Need-loop-holds Inv-loop μ-loop
-loop-holds c = refl
-
-get-requires : tie.Need-get-requires Inv-loop μ-loop
-get-requires c κs = search needs
-
-add-i : tie.Need-add-i Inv-loop μ-loop
-add-i c = search needs
-
-loop-less : tie.Need-loop-less Inv-loop μ-loop
-loop-less c = search needs
-
-loop-again : tie.Need-loop-again Inv-loop μ-loop
-loop-again c = rw (c .get .ensures .0) (all-next _ _ _ _ _ _ _ (c .before .before .loop .inv) (omega arith))
-
-returns : tie.Need-returns Inv-loop μ-loop
-returns c = all-end _ _ _ _ _ _ _ (c .before .loop .inv) (omega arith)
+returns : tie.Need-returns
+returns c = let a = c .before .before .before .args in
+    c .zeros-in .ensures ∙ zero-clamped (a .pool .now) (a .to) (c .before .smaller .result - a .from) (a .from) true (rw (c .before .smaller .ensures))
 
 pub zeros-spec : {M : Type 1} → statement M
-zeros-spec =
-    tie.close (tie.spec Inv-loop μ-loop loop-holds get-requires add-i loop-less loop-again returns)
+zeros-spec = tie.close (tie.spec smaller-requires zeros-in-requires returns)

@@ -1,0 +1,29 @@
+-- `words::point_at` meets its contract: the place of a slot does not wrap.
+use Rattle.words.proofs.Loops.{slot-near}
+use mathlib.Core.Path.{refl}
+use borrow.Author.Needs.{needs}
+use native.Mathlib.Omega.{arith}
+use Rattle.words.proofs.point_at.Statement.{statement}
+use Rattle.words.proofs.point_at.Tie as tie
+
+mul-result : tie.Need-mul-result
+mul-result c = search needs
+
+add-result : tie.Need-add-result
+add-result c = search needs
+
+add-result-2 : tie.Need-add-result-2
+add-result-2 c = search needs
+
+mul-result-2 : tie.Need-mul-result-2
+mul-result-2 c = omega (arith, slot-near (c .args .slot) (c .args .k) (c .pre .0))
+
+add-result-3 : tie.Need-add-result-3
+add-result-3 c = omega (arith, slot-near (c .args .slot) (c .args .k) (c .pre .0))
+
+returns : tie.Need-returns
+returns c = (refl, omega (arith, slot-near (c .args .slot) (c .args .k) (c .pre .0)))
+
+pub point-at-spec : {M : Type 1} → statement M
+point-at-spec =
+    tie.close (tie.spec mul-result add-result add-result-2 mul-result-2 add-result-3 returns)
