@@ -13,7 +13,7 @@ use Rattle.kdb.specs.Box.{solid}
 use Rattle.kdb.proofs.Lists.{bool, and-l, and-r}
 use Rattle.words.specs.Loops.{allBy}
 use Rattle.words.specs.Words.{RegionIn}
-use Rattle.cover.specs.Boxes.{sidesBy, sideAt, boxAt, boxesAt, RegionsIn}
+use Rattle.cover.specs.Boxes.{sidesBy, sideAt, boxAt, boxesAt, Row}
 use Rattle.cover.specs.Volume.{volumeOf, volumesOf, value}
 use Rattle.cover.specs.declared.Amount.{Amount}
 
@@ -31,19 +31,18 @@ module _ (c e : ℕ) (f : ℕ → ℕ → Bool) (d a : ℕ) (w : Bool) where
   unfolding allBy
   all-stop v h t = let q : c - e ≡ suc (c - (e + 1)) = omega arith in sym (all-false (c - (e + 1)) f d (a + d)) ∙ (sym (ap (allBy (c - (e + 1)) f d (a + d)) t) ∙ (rw q at v))
 
--- the first of the regions that are left, and those after it
-module _ (w : List ℕ) (k a c e : ℕ) (h : RegionsIn w k a (c - e)) (l : e < c) where
-  one-more : c - e ≡ suc (c - (e + 1))
-  one-more = omega arith
+-- the first of the entries that are left, and those after it
+module _ (w : List ℕ) (d a c e : ℕ) (h : Row w d a (c - e)) (l : e < c) where
+  pub row-next : Row w d (a + d) (c - (e + 1))
+  row-next =
+      let q : c - e ≡ suc (c - (e + 1)) = omega arith in
+      record { wide = h .wide; near = h .near; ends = omega (arith, suc-mul (c - (e + 1)) d, rw q at (h .ends)) }
 
-  room : a + (2 * k + 1) + (c - (e + 1)) * (2 * k + 1) ≤ length w
-  room = let q = one-more in omega (arith, suc-mul (c - (e + 1)) (2 * k + 1), rw q at (h .ends))
+  pub row-first : a + d ≤ length w
+  row-first = let r = row-next in omega arith
 
-  pub first-in : RegionIn w k a
-  first-in = let r = room in record { few = h .few; near = omega (arith, h .near); ends = omega arith }
-
-  pub rest-in : RegionsIn w k (a + (2 * k + 1)) (c - (e + 1))
-  rest-in = record { few = h .few; near = h .near; ends = room }
+pub region-first : (w : List ℕ) (k a c e : ℕ) → Row w (2 * k + 1) a (c - e) → e < c → RegionIn w k a
+region-first w k a c e h l = let r = row-first w (2 * k + 1) a c e h l in record { few = omega (arith, h .wide); near = omega (arith, h .near); ends = omega arith }
 
 -- two factors below 2 ^ 32, and v times w by halves of the lower word
 pub factors : (x w : ℕ) → x < 2 ^ 32 → w < 2 ^ 32 → x * w ≤ 18446744065119617025

@@ -13,18 +13,18 @@ use Rattle.kdb.specs.Box.{solid}
 use Rattle.kdb.specs.Tiling.{tiles}
 use Rattle.kdb.proofs.Lists.{and-l, and-r, and-i, bool-eq, of-true}
 use Rattle.words.specs.Words.{RegionIn}
-use Rattle.cover.specs.Boxes.{boxAt, boxesAt, fitting, regionIn, regionsIn, RegionsIn}
+use Rattle.cover.specs.Boxes.{boxAt, boxesAt, fitting, regionIn, regionsIn, Row}
 use Rattle.cover.specs.Volume.{volumeOf, volumesOf, value}
 use Rattle.cover.specs.declared.Amount.{Amount}
 use Rattle.cover.proofs.Tests.{box-is, boxes-are}
 use Rattle.cover.proofs.Tile.{fit-solid, fit-solids, fit-volumes, fit-tiles, tiles-no}
-use Rattle.cover.proofs.Loops.{rest-in, value-none, none-value}
+use Rattle.cover.proofs.Loops.{row-next, value-none, none-value}
 
 boxes-length : (n : ℕ) (w : List ℕ) (k a : ℕ) → length (boxesAt n w k a) ≡ n
 boxes-length zero w k a = refl
 boxes-length (suc n) w k a = ap suc (boxes-length n w k (a + (2 * k + 1)))
 
-module _ (w : List ℕ) (k at count : ℕ) (v : List ℕ) (b : ℕ) (g : RegionsIn w k at count) (h : RegionIn v k b) where
+module _ (w : List ℕ) (k at count : ℕ) (v : List ℕ) (b : ℕ) (g : Row w (2 * k + 1) at count) (h : RegionIn v k b) where
   pub tiles-in : tiles (boxAt v k b) (boxesAt count w k at) ≡ tiles (regionIn k v b) (regionsIn k count w at)
   tiles-in = ap₂ tiles (box-is v k b (h .ends)) (boxes-are count w k at (g .ends))
 
@@ -36,12 +36,12 @@ module _ (w : List ℕ) (k at count : ℕ) (v : List ℕ) (b : ℕ) (g : Regions
 
 -- with `left` keys to go, what the n regions from word a on have is there, and as much more as all of them lack of the whole
 pub record Left (w : List ℕ) (k a n all whole left : ℕ) : Type 0 where
-  pub regions : RegionsIn w k a n
+  pub regions : Row w (2 * k + 1) a n
   pub solids : T (every solid (boxesAt n w k a))
   pub sum : left + all ≡ whole + volumesOf (boxesAt n w k a)
   pub most : all ≤ whole
 
-pub left-all : (w : List ℕ) (k a n v b : ℕ) (r : List ℕ) → RegionsIn w k a n → fitting (boxAt r k b) (boxesAt n w k a) ≡ true
+pub left-all : (w : List ℕ) (k a n v b : ℕ) (r : List ℕ) → Row w (2 * k + 1) a n → fitting (boxAt r k b) (boxesAt n w k a) ≡ true
     → v ≡ volumeOf (boxAt r k b) → Left w k a (n - 0) (volumesOf (boxesAt n w k a)) (volumeOf (boxAt r k b)) v
 left-all w k a n v b r g e q =
     let t = of-true (fitting (boxAt r k b) (boxesAt n w k a)) e in
@@ -61,7 +61,7 @@ module _ (w : List ℕ) (k a c e all whole x : ℕ) (m : Left w k a (c - e) all 
     pub left-next : (y : ℕ) → y + volumeOf (boxAt w k a) ≡ x → Left w k (a + (2 * k + 1)) (c - (e + 1)) all whole y
     left-next y q =
         record {
-          regions = rest-in w k a c e (m .regions) l;
+          regions = row-next w (2 * k + 1) a c e (m .regions) l;
           solids = and-r (solid (boxAt w k a)) _ (rw more at (m .solids));
           sum = omega (arith, rw more at (m .sum));
           most = m .most;

@@ -31,11 +31,11 @@ regionIn k w a = sides (take k (drop a w)) (take k (drop (a + k) w))
 abbrev pub regionsIn : ℕ → ℕ → List ℕ → ℕ → List Box
 regionsIn k n w a = map (λ e. e .box) (readEnts k n (drop a w))
 
--- count regions from word a on end within the words
-pub record RegionsIn (w : List ℕ) (k a count : ℕ) : Type 0 where
-  pub few : k ≤ 4
+-- count entries of d words from word a on end within the words
+pub record Row (w : List ℕ) (d a count : ℕ) : Type 0 where
+  pub wide : d ≤ 9
   pub near : length w < 2 ^ 40
-  pub ends : a + count * (2 * k + 1) ≤ length w
+  pub ends : a + count * d ≤ length w
 
 -- a test of each side of one region and that of the other
 abbrev pub sideBySide : (Side → Side → Bool) → Box → Box → Bool

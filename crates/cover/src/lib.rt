@@ -5,11 +5,28 @@ ghost use mathlib.Core.Path.{_≡_};
 ghost use mathlib.Core.Bool.{true, false};
 ghost use Prim.Native.Nat.{ℕ, _+_, _*_, _-_, _≤_, _<_, _^_};
 ghost use lib.Dec.{T};
+ghost use lib.ListN.{getD};
 ghost use Rattle.kdb.specs.Box.{solid};
 ghost use Rattle.kdb.specs.Tiling.{tiles};
 ghost use Rattle.words.specs.Words.{RegionIn};
-ghost use Rattle.cover.specs.Boxes.{boxAt, boxesAt, insideOf, overlap, clearOf, fitting, RegionsIn, regionIn, regionsIn};
+ghost use Rattle.cover.specs.Boxes.{boxAt, boxesAt, insideOf, overlap, clearOf, fitting, Row, regionIn, regionsIn};
 ghost use Rattle.cover.specs.Volume.{value, volumeOf};
+
+// The lower end in domain i of the region at word a.
+pub fn low(p: &[u32], k: usize, a: usize, i: usize) -> usize
+    requires { ⌜ RegionIn (now p) k a × (i < k) ⌝ }
+    ensures { λ r. ⌜ (r ≡ getD (now (p .entry)) (a + i) 0) × (r < 2 ^ 32) ⌝ }
+{
+    read(p, a + i)
+}
+
+// The upper end in domain i of the region at word a.
+pub fn high(p: &[u32], k: usize, a: usize, i: usize) -> usize
+    requires { ⌜ RegionIn (now p) k a × (i < k) ⌝ }
+    ensures { λ r. ⌜ (r ≡ getD (now (p .entry)) (a + k + i) 0) × (r < 2 ^ 32) ⌝ }
+{
+    read(p, a + k + i)
+}
 
 // The region at word a of p is not empty and lies in the region at word b of q.
 pub fn inside(p: &[u32], a: usize, k: usize, q: &[u32], b: usize) -> bool
@@ -18,9 +35,9 @@ pub fn inside(p: &[u32], a: usize, k: usize, q: &[u32], b: usize) -> bool
 {
     let mut i: usize = 0;
     while i < k {
-        let low = read(p, a + i);
-        let high = read(p, a + k + i);
-        if !((low < high) & (read(q, b + i) <= low) & (high <= read(q, b + k + i))) {
+        let x = low(p, k, a, i);
+        let y = high(p, k, a, i);
+        if !((x < y) & (low(q, k, b, i) <= x) & (y <= high(q, k, b, i))) {
             return false;
         }
         i += 1;
@@ -35,7 +52,7 @@ pub fn share(p: &[u32], k: usize, a: usize, b: usize) -> bool
 {
     let mut i: usize = 0;
     while i < k {
-        if !((read(p, a + i) < read(p, b + k + i)) & (read(p, b + i) < read(p, a + k + i))) {
+        if !((low(p, k, a, i) < high(p, k, b, i)) & (low(p, k, b, i) < high(p, k, a, i))) {
             return false;
         }
         i += 1;
@@ -45,7 +62,7 @@ pub fn share(p: &[u32], k: usize, a: usize, b: usize) -> bool
 
 // None of the `left` regions from word `at` on shares a key with the region at word a.
 pub fn clear_of(p: &[u32], k: usize, a: usize, at: usize, left: usize) -> bool
-    requires { ⌜ RegionIn (now p) k a × RegionsIn (now p) k at left ⌝ }
+    requires { ⌜ RegionIn (now p) k a × Row (now p) (2 * k + 1) at left ⌝ }
     ensures { λ r. ⌜ r ≡ clearOf (boxAt (now (p .entry)) k a) (boxesAt left (now (p .entry)) k at) ⌝ }
 {
     let mut b = at;
@@ -62,7 +79,7 @@ pub fn clear_of(p: &[u32], k: usize, a: usize, at: usize, left: usize) -> bool
 
 // The `count` regions from word `at` on are not empty, lie in the region at word b of q, and share no key.
 pub fn fit(p: &[u32], k: usize, at: usize, count: usize, q: &[u32], b: usize) -> bool
-    requires { ⌜ RegionsIn (now p) k at count × RegionIn (now q) k b ⌝ }
+    requires { ⌜ Row (now p) (2 * k + 1) at count × RegionIn (now q) k b ⌝ }
     ensures { λ r. ⌜ r ≡ fitting (boxAt (now (q .entry)) k b) (boxesAt count (now (p .entry)) k at) ⌝ }
 {
     let mut a = at;
@@ -124,8 +141,8 @@ fn volume(p: &[u32], k: usize, a: usize) -> Amount
     let mut v = Amount { hi: 0, lo: 1 };
     let mut i: usize = 0;
     while i < k {
-        let low = read(p, a + i);
-        v = times(v, read(p, a + k + i) - low);
+        let x = low(p, k, a, i);
+        v = times(v, high(p, k, a, i) - x);
         i += 1;
     }
     v
@@ -133,7 +150,7 @@ fn volume(p: &[u32], k: usize, a: usize) -> Amount
 
 // The `count` regions from word `at` on, which fit in the region at word b of q, have together as many keys.
 fn filled(p: &[u32], k: usize, at: usize, count: usize, q: &[u32], b: usize) -> bool
-    requires { ⌜ RegionsIn (now p) k at count × (RegionIn (now q) k b × ((1 ≤ count) × (fitting (boxAt (now q) k b) (boxesAt count (now p) k at) ≡ true))) ⌝ }
+    requires { ⌜ Row (now p) (2 * k + 1) at count × (RegionIn (now q) k b × ((1 ≤ count) × (fitting (boxAt (now q) k b) (boxesAt count (now p) k at) ≡ true))) ⌝ }
     ensures { λ r. ⌜ r ≡ tiles (boxAt (now (q .entry)) k b) (boxesAt count (now (p .entry)) k at) ⌝ }
 {
     let mut left = volume(q, k, b);
@@ -149,7 +166,7 @@ fn filled(p: &[u32], k: usize, at: usize, count: usize, q: &[u32], b: usize) -> 
 
 // The `count` regions from word `at` on tile the region at word b of q.
 pub fn tiled(p: &[u32], k: usize, at: usize, count: usize, q: &[u32], b: usize) -> bool
-    requires { ⌜ RegionsIn (now p) k at count × (RegionIn (now q) k b × (1 ≤ count)) ⌝ }
+    requires { ⌜ Row (now p) (2 * k + 1) at count × (RegionIn (now q) k b × (1 ≤ count)) ⌝ }
     ensures { λ r. ⌜ r ≡ tiles (regionIn k (now (q .entry)) b) (regionsIn k count (now (p .entry)) at) ⌝ }
 {
     if !fit(p, k, at, count, q, b) {

@@ -5,8 +5,8 @@ use mathlib.Core.Bool.{true, not}
 use native.Mathlib.Nat.{sub-zero}
 use Rattle.words.specs.Loops.{allBy}
 use Rattle.words.proofs.Loops.{all-end}
-use Rattle.cover.specs.Boxes.{overlap, boxAt, boxesAt, clearOf, RegionsIn}
-use Rattle.cover.proofs.Loops.{all-on, all-stop, first-in, rest-in}
+use Rattle.cover.specs.Boxes.{overlap, boxAt, boxesAt, clearOf, Row}
+use Rattle.cover.proofs.Loops.{all-on, all-stop, region-first, row-next}
 use Rattle.cover.proofs.Tests.{clear-loop}
 use borrow.Author.Needs.{needs}
 use native.Mathlib.Omega.{arith}
@@ -17,7 +17,7 @@ use Rattle.cover.proofs.clear_of.Lts as lts
 use Rattle.cover.proofs.share.Reads as share-reads
 
 abbrev Inv-loop : tie.InvT-loop
-Inv-loop p k a at left b₀ e₀ b e = RegionsIn p k b (left - e) × (allBy (left - e) (λ n x. not (overlap (boxAt p k a) (boxAt p k x))) (2 * k + 1) b true ≡ clearOf (boxAt p k a) (boxesAt left p k at))
+Inv-loop p k a at left b₀ e₀ b e = Row p (2 * k + 1) b (left - e) × (allBy (left - e) (λ n x. not (overlap (boxAt p k a) (boxAt p k x))) (2 * k + 1) b true ≡ clearOf (boxAt p k a) (boxesAt left p k at))
 
 abbrev μ-loop : tie.MeasureT-loop
 μ-loop p k a at left b₀ e₀ b e = left - e
@@ -28,7 +28,7 @@ loop-holds c = let x = c .before .args in
 
 share-requires : tie.Need-share-requires Inv-loop μ-loop
 share-requires c κs = let x = c .before .before .before .args in
-    (c .before .before .before .pre .0, first-in (x .p .now) (x .k) _ (x .left) _ (c .before .loop .inv .0) (omega arith))
+    (c .before .before .before .pre .0, region-first (x .p .now) (x .k) _ (x .left) _ (c .before .loop .inv .0) (omega arith))
 
 returns : tie.Need-returns Inv-loop μ-loop
 returns c = all-stop _ _ _ _ _ _ (c .before .before .before .loop .inv .1) (omega arith) (ap not (sym (c .before .share .ensures) ∙ c .if1 .taken))
@@ -41,7 +41,7 @@ add-b c = search needs
 
 add-b-2 : tie.Need-add-b-2 Inv-loop μ-loop
 add-b-2 c = let x = c .before .before .before .before .before .args in
-    let f = first-in (x .p .now) (x .k) _ (x .left) _ (c .before .before .before .loop .inv .0) (omega arith) in
+    let f = region-first (x .p .now) (x .k) _ (x .left) _ (c .before .before .before .loop .inv .0) (omega arith) in
     omega arith
 
 add-e : tie.Need-add-e Inv-loop μ-loop
@@ -51,7 +51,7 @@ loop-less : tie.Need-loop-less Inv-loop μ-loop
 loop-less c = search needs
 
 loop-again : tie.Need-loop-again Inv-loop μ-loop
-loop-again c = (rest-in _ _ _ _ _ (c .before .before .before .loop .inv .0) (omega arith), all-on _ _ _ _ _ _ (c .before .before .before .loop .inv .1) (omega arith) (ap not (sym (c .before .share .ensures) ∙ c .if1 .left)))
+loop-again c = (row-next _ _ _ _ _ (c .before .before .before .loop .inv .0) (omega arith), all-on _ _ _ _ _ _ (c .before .before .before .loop .inv .1) (omega arith) (ap not (sym (c .before .share .ensures) ∙ c .if1 .left)))
 
 returns-2 : tie.Need-returns-2 Inv-loop μ-loop
 returns-2 c = all-end _ _ _ _ _ _ _ (c .before .loop .inv .1) (omega arith)

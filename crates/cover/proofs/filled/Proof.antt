@@ -2,7 +2,7 @@
 use Prim.Native.Nat.{_-_}
 use Rattle.cover.specs.Boxes.{boxAt, boxesAt}
 use Rattle.cover.specs.Volume.{volumeOf, volumesOf, value}
-use Rattle.cover.proofs.Loops.{first-in}
+use Rattle.cover.proofs.Loops.{region-first}
 use Rattle.cover.proofs.Regions.{Left, region-some, left-all, left-some, left-most, left-next, left-end, filled-is}
 use borrow.Author.Needs.{needs}
 use native.Mathlib.Omega.{arith}
@@ -30,7 +30,7 @@ loop-holds c = let x = c .before .before .before .args in
     left-all (x .p .now) (x .k) (x .at) (x .count) _ (x .b) (x .q .now) (h .0) (h .1 .1 .1) (c .volume .ensures)
 
 volume-requires-2 : tie.Need-volume-requires-2 Inv-loop μ-loop
-volume-requires-2 c κs = (first-in _ _ _ _ _ (c .before .loop .inv .regions) (omega arith), left-some _ _ _ _ _ _ _ _ (c .before .loop .inv) (omega arith))
+volume-requires-2 c κs = (region-first _ _ _ _ _ (c .before .loop .inv .regions) (omega arith), left-some _ _ _ _ _ _ _ _ (c .before .loop .inv) (omega arith))
 
 less-requires : tie.Need-less-requires Inv-loop μ-loop
 less-requires c κs = rw (c .volume2 .ensures) (left-most _ _ _ _ _ _ _ _ (c .before .before .loop .inv) (omega arith))
@@ -43,7 +43,7 @@ add-a c = search needs
 
 add-a-2 : tie.Need-add-a-2 Inv-loop μ-loop
 add-a-2 c = let x = c .before .before .before .before .before .before .before .args in
-    let f = first-in (x .p .now) (x .k) _ (x .count) _ (c .before .before .before .loop .inv .regions) (omega arith) in
+    let f = region-first (x .p .now) (x .k) _ (x .count) _ (c .before .before .before .loop .inv .regions) (omega arith) in
     omega arith
 
 add-e : tie.Need-add-e Inv-loop μ-loop

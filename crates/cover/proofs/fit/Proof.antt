@@ -6,8 +6,8 @@ use native.Mathlib.Nat.{sub-zero}
 use borrow.Author.Tests.{not-true, not-false}
 use Rattle.words.specs.Loops.{allBy}
 use Rattle.words.proofs.Loops.{all-end}
-use Rattle.cover.specs.Boxes.{boxAt, boxesAt, fitting, RegionsIn}
-use Rattle.cover.proofs.Loops.{all-on, all-stop, first-in, rest-in}
+use Rattle.cover.specs.Boxes.{boxAt, boxesAt, fitting, Row}
+use Rattle.cover.proofs.Loops.{all-on, all-stop, region-first, row-next}
 use Rattle.cover.proofs.Tests.{entryAt, fit-loop}
 use borrow.Author.Needs.{needs}
 use native.Mathlib.Omega.{arith}
@@ -19,7 +19,7 @@ use Rattle.cover.proofs.clear_of.Reads as clear-of-reads
 use Rattle.cover.proofs.inside.Reads as inside-reads
 
 abbrev Inv-loop : tie.InvT-loop
-Inv-loop p k at count q b a₀ e₀ a e = RegionsIn p k a (count - e) × (allBy (count - e) (entryAt (boxAt q k b) p k) (2 * k + 1) a true ≡ fitting (boxAt q k b) (boxesAt count p k at))
+Inv-loop p k at count q b a₀ e₀ a e = Row p (2 * k + 1) a (count - e) × (allBy (count - e) (entryAt (boxAt q k b) p k) (2 * k + 1) a true ≡ fitting (boxAt q k b) (boxesAt count p k at))
 
 abbrev μ-loop : tie.MeasureT-loop
 μ-loop p k at count q b a₀ e₀ a e = count - e
@@ -29,7 +29,7 @@ loop-holds c = let x = c .before .before .args in
     (rw (sub-zero (x .count)) (c .before .before .pre .0), simp sub-zero (fit-loop (x .count) (boxAt (x .q .now) (x .k) (x .b)) (x .p .now) (x .k) (x .at) true))
 
 inside-requires : tie.Need-inside-requires Inv-loop μ-loop
-inside-requires c κs = (first-in _ _ _ _ _ (c .before .loop .inv .0) (omega arith), c .before .before .before .before .pre .1)
+inside-requires c κs = (region-first _ _ _ _ _ (c .before .loop .inv .0) (omega arith), c .before .before .before .before .pre .1)
 
 returns : tie.Need-returns Inv-loop μ-loop
 returns c = all-stop _ _ _ _ _ _ (c .before .before .before .loop .inv .1) (omega arith) (rw (sym (c .before .inside .ensures) ∙ not-true _ (c .if1 .taken)))
@@ -42,7 +42,7 @@ add-clear-of c = search needs
 
 add-clear-of-2 : tie.Need-add-clear-of-2 Inv-loop μ-loop
 add-clear-of-2 c = let x = c .before .before .before .before .before .before .args in
-    let f = first-in (x .p .now) (x .k) _ (x .count) _ (c .before .before .before .loop .inv .0) (omega arith) in
+    let f = region-first (x .p .now) (x .k) _ (x .count) _ (c .before .before .before .loop .inv .0) (omega arith) in
     omega arith
 
 add-clear-of-3 : tie.Need-add-clear-of-3 Inv-loop μ-loop
@@ -52,7 +52,7 @@ sub-clear-of : tie.Need-sub-clear-of Inv-loop μ-loop
 sub-clear-of c = search needs
 
 clear-of-requires : tie.Need-clear-of-requires Inv-loop μ-loop
-clear-of-requires c κs = (first-in _ _ _ _ _ (c .before .before .before .loop .inv .0) (omega arith), rest-in _ _ _ _ _ (c .before .before .before .loop .inv .0) (omega arith))
+clear-of-requires c κs = (region-first _ _ _ _ _ (c .before .before .before .loop .inv .0) (omega arith), row-next _ _ _ _ _ (c .before .before .before .loop .inv .0) (omega arith))
 
 returns-2 : tie.Need-returns-2 Inv-loop μ-loop
 returns-2 c = all-stop _ _ _ _ _ _ (c .before .before .before .before .before .loop .inv .1) (omega arith)
@@ -66,7 +66,7 @@ add-a c = search needs
 
 add-a-2 : tie.Need-add-a-2 Inv-loop μ-loop
 add-a-2 c = let x = c .before .before .before .before .before .before .before .before .args in
-    let f = first-in (x .p .now) (x .k) _ (x .count) _ (c .before .before .before .before .before .loop .inv .0) (omega arith) in
+    let f = region-first (x .p .now) (x .k) _ (x .count) _ (c .before .before .before .before .before .loop .inv .0) (omega arith) in
     omega arith
 
 add-e : tie.Need-add-e Inv-loop μ-loop
@@ -77,7 +77,7 @@ loop-less c = search needs
 
 loop-again : tie.Need-loop-again Inv-loop μ-loop
 loop-again c = (
-  rest-in _ _ _ _ _ (c .before .before .before .before .before .loop .inv .0) (omega arith),
+  row-next _ _ _ _ _ (c .before .before .before .before .before .loop .inv .0) (omega arith),
   all-on _ _ _ _ _ _ (c .before .before .before .before .before .loop .inv .1) (omega arith)
       (ap₂ _&&_ (sym (c .before .before .before .inside .ensures) ∙ not-false _ (c .before .before .if1 .left)) (sym (c .before .clear-of .ensures) ∙ not-false _ (c .if2 .left))),
 )

@@ -9,7 +9,8 @@ use Rattle.cover.proofs.volume.Tie as tie
 use Rattle.cover.proofs.volume.Reads as reads
 use Rattle.cover.proofs.volume.Lts as lts
 use Rattle.cover.proofs.times.Reads as times-reads
-use Rattle.words.proofs.read.Reads as read-reads
+use Rattle.cover.proofs.high.Reads as high-reads
+use Rattle.cover.proofs.low.Reads as low-reads
 
 abbrev Inv-loop : tie.InvT-loop
 Inv-loop p k a v₀ i₀ v i = Sides p k a v i
@@ -20,28 +21,19 @@ abbrev μ-loop : tie.MeasureT-loop
 loop-holds : tie.Need-loop-holds Inv-loop μ-loop
 loop-holds c = let x = c .before .args in sides-all (x .p .now) (x .k) (x .a) (c .before .pre .1)
 
-add-read : tie.Need-add-read Inv-loop μ-loop
-add-read c = search needs
+low-requires : tie.Need-low-requires Inv-loop μ-loop
+low-requires c κs = search needs
 
-read-requires : tie.Need-read-requires Inv-loop μ-loop
-read-requires c κs = search needs
-
-add-read-2 : tie.Need-add-read-2 Inv-loop μ-loop
-add-read-2 c = search needs
-
-add-read-3 : tie.Need-add-read-3 Inv-loop μ-loop
-add-read-3 c = search needs
-
-read-requires-2 : tie.Need-read-requires-2 Inv-loop μ-loop
-read-requires-2 c κs = search needs
+high-requires : tie.Need-high-requires Inv-loop μ-loop
+high-requires c κs = search needs
 
 sub-times : tie.Need-sub-times Inv-loop μ-loop
 sub-times c = let x = c .before .before .before .before .before .args in
-    omega (arith, c .read2 .ensures .0, c .before .read .ensures .0, side-some (x .p .now) (x .k) (x .a) _ _ (c .before .before .before .loop .inv) (omega arith))
+    omega (arith, c .high .ensures .0, c .before .low .ensures .0, side-some (x .p .now) (x .k) (x .a) _ _ (c .before .before .before .loop .inv) (omega arith))
 
 times-requires : tie.Need-times-requires Inv-loop μ-loop
 times-requires c κs = let x = c .before .before .before .before .before .args in
-    (side-small (x .p .now) (x .k) (x .a) _ _ (c .before .before .before .loop .inv) (omega arith) (omega arith), omega (arith, c .read2 .ensures .1))
+    (side-small (x .p .now) (x .k) (x .a) _ _ (c .before .before .before .loop .inv) (omega arith) (omega arith), omega (arith, c .high .ensures .1))
 
 add-i : tie.Need-add-i Inv-loop μ-loop
 add-i c = search needs
@@ -50,8 +42,8 @@ loop-less : tie.Need-loop-less Inv-loop μ-loop
 loop-less c = search needs
 
 loop-again : tie.Need-loop-again Inv-loop μ-loop
-loop-again c = sides-next _ _ _ _ _ (c .before .before .before .before .loop .inv) (omega arith) _ (omega (arith, c .before .read2 .ensures .0, c .before .read2 .ensures .1))
-    (rw (c .before .read2 .ensures .0, c .before .before .read .ensures .0) at (c .times .ensures))
+loop-again c = sides-next _ _ _ _ _ (c .before .before .before .before .loop .inv) (omega arith) _ (omega (arith, c .before .high .ensures .0, c .before .high .ensures .1))
+    (rw (c .before .high .ensures .0, c .before .before .low .ensures .0) at (c .times .ensures))
 
 returns : tie.Need-returns Inv-loop μ-loop
 returns c = sides-end _ _ _ _ _ (c .before .loop .inv) (omega arith)
@@ -63,11 +55,8 @@ volume-spec =
     Inv-loop
     μ-loop
     loop-holds
-    add-read
-    read-requires
-    add-read-2
-    add-read-3
-    read-requires-2
+    low-requires
+    high-requires
     sub-times
     times-requires
     add-i
