@@ -6,3 +6,4 @@ pub mod Laying
 pub mod OnePage
 pub mod Slots
 pub mod Turns
+pub mod Bytes

@@ -24,27 +24,23 @@ use Rattle.kdb.proofs.Tiling.{tiles-iff}
 use Rattle.kdb.proofs.Pages.{page-full, points-fit, regions-fit}
 use Rattle.kdb.proofs.Pages.{recs-take, ents-take, length-recs, length-ents, word-at}
 use Rattle.kdb.proofs.Words.{keysBy, keys-by, page-rest, kind, count, shape, seen}
-use Rattle.words.specs.Words.{wordAt, Paged, pointKey, allZero}
+use Rattle.words.specs.Words.{wordAt, Paged, allZero}
 use Rattle.words.proofs.Laws.{pages}
 use Rattle.words.proofs.Loops.{every-by}
 use Rattle.cover.specs.Boxes.{regionsIn}
-use Rattle.audit.specs.Tests.{keyIn, keysIn, alone, scattered, headOf, Held, Numbered}
+use Rattle.audit.specs.Tests.{keyIn, keysIn, alone, distinctOf, headOf, Held, Numbered}
 use Rattle.audit.specs.Walk.{soundPoints, soundRegions}
 use Rattle.audit.proofs.Laying.{recs-words, ents-words, Laid, layout-iff}
 use Rattle.audit.proofs.Turns.{Room}
 use Rattle.audit.proofs.Here.{PointsHere, RegionsHere, points-say, say-points, regions-say, say-regions}
 
--- keys in slots are the keys of the records
-keys-are : (m : ℕ) (w : List ℕ) (k j e : ℕ) → L * j + 4 + e * (k + 1) + m * (k + 1) ≤ length w
-    → keysIn m w k j e ≡ map (λ r. r .key) (readRecs k m (drop (L * j + 4 + e * (k + 1)) w))
-keys-are zero w k j e h = refl
-keys-are (suc m) w k j e h =
-    let a = L * j + 4 + e * (k + 1) in
+-- keys in words are the keys of the records
+keys-are : (m : ℕ) (w : List ℕ) (k a : ℕ) → a + m * (k + 1) ≤ length w → keysIn m w k a ≡ map (λ r. r .key) (readRecs k m (drop a w))
+keys-are zero w k a h = refl
+keys-are (suc m) w k a h =
     let q = suc-mul m (k + 1) in
-    let s : (e + 1) * (k + 1) ≡ e * (k + 1) + (k + 1) = ap (λ (i : ℕ). i * (k + 1)) (add-one e) ∙ suc-mul e (k + 1) in
-    let b : L * j + 4 + (e + 1) * (k + 1) ≡ a + (k + 1) = omega arith in
-    ap₂ _∷_ (keys-by k a 0 w (pointKey w k j e) (λ d. refl) (omega arith) ∙ ap (λ (i : ℕ). take k (drop i w)) (add-zero a))
-    (keys-are m w k j (e + 1) (omega arith) ∙ ap (λ (l : List ℕ). map (λ r. r .key) (readRecs k m l)) (ap (λ (i : ℕ). drop i w) b ∙ sym (drop-drop (k + 1) a w)))
+    ap₂ _∷_ (keys-by k a 0 w (λ d. getD w (a + d) 0) (λ d. refl) (omega arith) ∙ ap (λ (i : ℕ). take k (drop i w)) (add-zero a))
+    (keys-are m w k (a + (k + 1)) (omega arith) ∙ ap (λ (l : List ℕ). map (λ r. r .key) (readRecs k m l)) (sym (drop-drop (k + 1) a w)))
 
 alone-is : (x : Key) (rs : List Rec) → alone x (map (λ r. r .key) rs) ≡ eqb (tally (λ q. same x (q .key)) rs) 0
 alone-is x [] = refl
@@ -57,17 +53,13 @@ alone-is x (r ∷ rs) = go (same x (r .key)) (alone-is x rs)
     go true e = sym (ne-eqb (1 + n) 0 (λ z. omega arith))
     go false e = e ∙ ap (λ (i : ℕ). eqb i 0) (sym (zero-add n))
 
-scattered-is : (r : Box) (rs : List Rec) → scattered r (map (λ q. q .key) rs) ≡ every (λ q. within r (q .key)) rs && differ rs
-scattered-is r [] = refl
-scattered-is r (q ∷ rs) =
-    ap₂ (λ x y. (within r (q .key) && x) && y) (alone-is (q .key) rs) (scattered-is r rs)
-    ∙ swap (within r (q .key)) (eqb (tally (λ p. same (q .key) (p .key)) rs) 0) (every (λ p. within r (p .key)) rs) (differ rs)
-  where
-    swap : (a b c d : Bool) → (a && b) && (c && d) ≡ (a && c) && (b && d)
-    swap true true c d = refl
-    swap true false true d = refl
-    swap true false false d = refl
-    swap false b c d = refl
+distinct-is : (rs : List Rec) → distinctOf (map (λ q. q .key) rs) ≡ differ rs
+distinct-is [] = refl
+distinct-is (q ∷ rs) = ap₂ _&&_ (alone-is (q .key) rs) (distinct-is rs)
+
+held-is : (r : Box) (rs : List Rec) → every (within r) (map (λ q. q .key) rs) ≡ every (λ q. within r (q .key)) rs
+held-is r [] = refl
+held-is r (q ∷ rs) = ap (λ t. within r (q .key) && t) (held-is r rs)
 
 -- the words behind t words of entries
 module _ (w : List ℕ) (n j : ℕ) (g : Paged w n) (i : Numbered n j) where
@@ -210,32 +202,34 @@ module _ (w : List ℕ) (n j : ℕ) (g : Paged w n) (i : Numbered n j) where
         prints = points-print e f;
       }
 
-  scattered-recs : PointView → (r : Box) → scattered r (keysIn (wordAt w j 1) w k j 0) ≡ every (λ q. within r (q .key)) (recsIn (view L w j)) && differ (recsIn (view L w j))
-  scattered-recs v r =
-      let z = zero-mul (k + 1) in
-      let q : L * j + 4 + 0 * (k + 1) ≡ L * j + 4 = omega arith in
-      ap (scattered r) (keys-are (wordAt w j 1) w k j 0 (omega (arith, within-pool, v .fits))
-      ∙ ap (map (λ p. p .key)) (ap (λ (x : ℕ). readRecs k (wordAt w j 1) (drop x w)) q ∙ sym (v .recs)))
-      ∙ scattered-is r (recsIn (view L w j))
+  keys-recs : PointView → keysIn (wordAt w j 1) w k (L * j + 4) ≡ map (λ p. p .key) (recsIn (view L w j))
+  keys-recs v = keys-are (wordAt w j 1) w k (L * j + 4) (omega (arith, within-pool, v .fits)) ∙ ap (map (λ p. p .key)) (sym (v .recs))
+
+  held-recs : PointView → (r : Box) → every (within r) (keysIn (wordAt w j 1) w k (L * j + 4)) ≡ every (λ q. within r (q .key)) (recsIn (view L w j))
+  held-recs v r = ap (every (within r)) (keys-recs v) ∙ held-is r (recsIn (view L w j))
+
+  distinct-recs : PointView → distinctOf (keysIn (wordAt w j 1) w k (L * j + 4)) ≡ differ (recsIn (view L w j))
+  distinct-recs v = ap distinctOf (keys-recs v) ∙ distinct-is (recsIn (view L w j))
 
   abbrev tailZero : ℕ → Bool
   tailZero t = allZero w (L * j + 4 + t) (L * j + L - (L * j + 4 + t))
 
-  pub point-page-is : (r : Box) → headOf w k j 2 (pointsPer L k) && tailZero pointWords && scattered r (keysIn (wordAt w j 1) w k j 0) ≡ soundPoints L w j r
+  pub point-page-is : (r : Box) → headOf w k j 2 (pointsPer L k) && tailZero pointWords && every (within r) (keysIn (wordAt w j 1) w k (L * j + 4))
+      && distinctOf (keysIn (wordAt w j 1) w k (L * j + 4)) ≡ soundPoints L w j r
   point-page-is r =
-      bool-eq (hd && tl && sc) (soundPoints L w j r)
-      (λ t. let u = and-l (hd && tl) _ t in
+      bool-eq (hd && tl && ev && di) (soundPoints L w j r)
+      (λ t. let s = and-l (hd && tl && ev) _ t in
+      let u = and-l (hd && tl) _ s in
       let h = head-says (pointsPer L k) 2 (and-l hd _ u) in
       let v = point-view (h .is) (h .room) in
-      let s : T (every (λ q. within r (q .key)) (recsIn (view L w j)) && differ (recsIn (view L w j))) = rw (scattered-recs v r) at (and-r (hd && tl) _ t) in
       say-points L w j r (record {
         laid = laid-iff pointWords (omega (arith, v .fits)) (v .prints) .1 (h .zero, and-r hd _ u);
         is = rw (points-view (h .is)) tt;
         shape = record {
           room = omega (arith, v .many, v .room);
           domain = omega (arith, v .split, h .domain);
-          inside = and-l (every (λ q. within r (q .key)) (recsIn (view L w j))) _ s;
-          distinct = and-r (every (λ q. within r (q .key)) (recsIn (view L w j))) _ s;
+          inside = rw (held-recs v r) at (and-r (hd && tl) _ s);
+          distinct = rw (distinct-recs v) at (and-r (hd && tl && ev) _ t);
         };
       }))
       (λ t. let p = points-say L w j r t in
@@ -243,9 +237,11 @@ module _ (w : List ℕ) (n j : ℕ) (g : Paged w n) (i : Numbered n j) where
       let m : length (recsIn (view L w j)) ≡ wordAt w j 1 = ap (λ x. length (recsIn x)) (points-view e) ∙ length-recs k (wordAt w j 1) (drop 4 ws) in
       let v = point-view e (omega (arith, m, p .shape .room)) in
       let l = laid-iff pointWords (omega (arith, v .fits)) (v .prints) .0 (p .laid) in
-      and-i (hd && tl) _
+      and-i (hd && tl && ev) _
+      (and-i (hd && tl) _
       (and-i hd _ (says-head (pointsPer L k) 2 (record { is = e; room = v .room; domain = omega (arith, v .split, p .shape .domain); zero = l .0 })) (l .1))
-      (rw (scattered-recs v r) (and-i (every (λ q. within r (q .key)) (recsIn (view L w j))) _ (p .shape .inside) (p .shape .distinct))))
+      (rw (held-recs v r) (p .shape .inside)))
+      (rw (distinct-recs v) (p .shape .distinct)))
     where
       hd : Bool
       hd = headOf w k j 2 (pointsPer L k)
@@ -253,8 +249,11 @@ module _ (w : List ℕ) (n j : ℕ) (g : Paged w n) (i : Numbered n j) where
       tl : Bool
       tl = tailZero pointWords
 
-      sc : Bool
-      sc = scattered r (keysIn (wordAt w j 1) w k j 0)
+      ev : Bool
+      ev = every (within r) (keysIn (wordAt w j 1) w k (L * j + 4))
+
+      di : Bool
+      di = distinctOf (keysIn (wordAt w j 1) w k (L * j + 4))
 
   -- region pages
   abbrev regionWords : ℕ
@@ -341,20 +340,26 @@ module _ (w : List ℕ) (n j : ℕ) (g : Paged w n) (i : Numbered n j) where
 
 -- the same as code takes them: a way out for each test that fails, and the last test
 module _ (w : List ℕ) (n k j : ℕ) (v : List ℕ) (b : ℕ) (h : Held w n k v b) (i : Numbered n j) (r : Box) where
-  points-is : headOf w k j 2 (pointsPer L k) && allZero w (L * j + 4 + wordAt w j 1 * (k + 1)) (L * j + L - (L * j + 4 + wordAt w j 1 * (k + 1)))
-      && scattered r (keysIn (wordAt w j 1) w k j 0) ≡ soundPoints L w j r
+  abbrev keys : List Key
+  keys = keysIn (wordAt w j 1) w k (L * j + 4)
+
+  abbrev tail : ℕ → Bool
+  tail d = allZero w (L * j + 4 + wordAt w j 1 * d) (L * j + L - (L * j + 4 + wordAt w j 1 * d))
+
+  points-is : headOf w k j 2 (pointsPer L k) && tail (k + 1) && every (within r) keys && distinctOf keys ≡ soundPoints L w j r
   points-is = rw (h .domains) (point-page-is w n j (h .pool) i r)
 
   pub points-head : headOf w k j 2 (pointsPer L k) ≡ false → false ≡ soundPoints L w j r
   points-head e = rw e at points-is
 
-  pub points-tail : headOf w k j 2 (pointsPer L k) ≡ true → allZero w (L * j + 4 + wordAt w j 1 * (k + 1)) (L * j + L - (L * j + 4 + wordAt w j 1 * (k + 1))) ≡ false
-      → false ≡ soundPoints L w j r
+  pub points-tail : headOf w k j 2 (pointsPer L k) ≡ true → tail (k + 1) ≡ false → false ≡ soundPoints L w j r
   points-tail e f = rw (e, f) at points-is
 
-  pub points-last : headOf w k j 2 (pointsPer L k) ≡ true → allZero w (L * j + 4 + wordAt w j 1 * (k + 1)) (L * j + L - (L * j + 4 + wordAt w j 1 * (k + 1))) ≡ true
-      → scattered r (keysIn (wordAt w j 1) w k j 0) ≡ soundPoints L w j r
-  points-last e f = rw (e, f) at points-is
+  pub points-out : headOf w k j 2 (pointsPer L k) ≡ true → tail (k + 1) ≡ true → every (within r) keys ≡ false → false ≡ soundPoints L w j r
+  points-out e f g = rw (e, f, g) at points-is
+
+  pub points-last : headOf w k j 2 (pointsPer L k) ≡ true → tail (k + 1) ≡ true → every (within r) keys ≡ true → distinctOf keys ≡ soundPoints L w j r
+  points-last e f g = rw (e, f, g) at points-is
 
   regions-is : headOf w k j 1 (regionsPer L k) && leb 1 (wordAt w j 1)
       && allZero w (L * j + 4 + wordAt w j 1 * (2 * k + 1)) (L * j + L - (L * j + 4 + wordAt w j 1 * (2 * k + 1))) && tiles r (regionsIn k (wordAt w j 1) w (L * j + 4)) ≡ soundRegions L w j r

@@ -6,28 +6,41 @@ use Prim.Native.Nat.{ℕ, zero, suc, _+_, _*_, _≤_, _<_, _^_}
 use lib.Dec.{leb, ltb, eqb}
 use lib.ListN.{length, getD}
 use Rattle.kdb.specs.Lists.{every, same}
-use Rattle.kdb.specs.Box.{Box, Key, within}
+use Rattle.kdb.specs.Box.{Side, Key}
 use Rattle.kdb.specs.Pool.{domains}
 use Rattle.kdb.proofs.Words.{keysBy}
-use Rattle.words.specs.Words.{wordAt, Paged, pointKey}
+use Rattle.words.specs.Loops.{allBy}
+use Rattle.words.specs.Words.{wordAt, Paged}
 use Rattle.audit.specs.declared.Seen.{Seen}
 
--- the key in slot e of page j, and those in m slots from e on
-abbrev pub keyIn : List ℕ → ℕ → ℕ → ℕ → Key
-keyIn w k j e = keysBy k (pointKey w k j e) 0
+-- the key at word a, and those of m records from word a on
+abbrev pub keyIn : List ℕ → ℕ → ℕ → Key
+keyIn w k a = keysBy k (λ d. getD w (a + d) 0) 0
 
-abbrev pub keysIn : ℕ → List ℕ → ℕ → ℕ → ℕ → List Key
-keysIn zero w k j e = []
-keysIn (suc m) w k j e = keyIn w k j e ∷ keysIn m w k j (e + 1)
+abbrev pub keysIn : ℕ → List ℕ → ℕ → ℕ → List Key
+keysIn zero w k a = []
+keysIn (suc m) w k a = keyIn w k a ∷ keysIn m w k (a + (k + 1))
 
--- x is none of the keys
+-- a number in a side, and those in domain d of m keys from word a on
+abbrev pub keyInside : Side → ℕ → Bool
+keyInside s x = leb (s .lo) x && ltb x (s .hi)
+
+abbrev pub columnIn : List ℕ → ℕ → ℕ → ℕ → Side → ℕ → Bool
+columnIn w k m d s a = allBy m (λ n x. keyInside s (getD w (x + d) 0)) (k + 1) a true
+
+-- x is none of the keys; no two keys are the same
 abbrev pub alone : Key → List Key → Bool
 alone x ys = every (λ y. not (same x y)) ys
 
--- the keys lie in r, and no two are the same
-abbrev pub scattered : Box → List Key → Bool
-scattered r [] = true
-scattered r (x ∷ xs) = (within r x && alone x xs) && scattered r xs
+abbrev pub distinctOf : List Key → Bool
+distinctOf [] = true
+distinctOf (x ∷ xs) = alone x xs && distinctOf xs
+
+-- the k keys at word a end within the words
+pub record PointIn (w : List ℕ) (k a : ℕ) : Type 0 where
+  pub near : a < 2 ^ 40
+  pub few : k < 9
+  pub ends : a + k ≤ length w
 
 -- the four words before the entries of page j: this kind, at most so many entries, a domain below k, zero
 abbrev pub headOf : List ℕ → ℕ → ℕ → ℕ → ℕ → Bool

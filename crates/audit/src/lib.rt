@@ -1,97 +1,141 @@
 // The audit of a pool: whether it is sound, for every pool. One walk from the root with a mark for each page met, so that no page is looked
 // at twice; then the pages not met are all zero.
+use cover::high;
+use cover::low;
 use cover::tiled;
-use words::child;
 use words::get;
 use words::good_header;
-use words::lower_end;
 use words::page_count;
-use words::point_key;
 use words::points_per;
 use words::put;
+use words::read;
 use words::regions_per;
-use words::upper_end;
-use words::word;
 use words::zeros;
 ghost use mathlib.Core.Path.{_≡_};
-ghost use mathlib.Core.Bool.{true, false};
+ghost use mathlib.Core.Bool.{true, false, cond};
 ghost use mathlib.Core.List.{[]};
 ghost use Prim.Native.Nat.{ℕ, _+_, _*_, _-_, _≤_, _<_, _^_};
 ghost use lib.Dec.{T};
 ghost use lib.ListN.{length, getD, set};
-ghost use Rattle.kdb.specs.Lists.{same};
+ghost use Rattle.kdb.specs.Lists.{every, same};
 ghost use Rattle.kdb.specs.Box.{within};
 ghost use Rattle.kdb.specs.Pool.{goodHeader};
 ghost use Rattle.kdb.specs.Print.{sound};
 ghost use Rattle.kdb.specs.Calls.{L, Call, lent, refuses, Promise};
-ghost use Rattle.words.specs.Words.{Paged};
-ghost use Rattle.cover.specs.Boxes.{boxAt, regionIn};
-ghost use Rattle.audit.specs.Tests.{keyIn, keysIn, alone, scattered, headOf, freshOf, Held, Numbered};
+ghost use Rattle.words.specs.Words.{Paged, RegionIn};
+ghost use Rattle.cover.specs.Boxes.{boxAt, regionIn, Row};
+ghost use Rattle.audit.specs.Tests.{keyIn, keysIn, columnIn, alone, distinctOf, headOf, freshOf, Held, Numbered, PointIn};
 ghost use Rattle.audit.specs.Walk.{soundPoints, soundRegions, leafOf, pageOf, walkOf, freeOf, restOf};
 
-// The point in a slot of page j lies in the region at word b of q.
-fn holds(p: &[u32], k: usize, j: usize, slot: usize, q: &[u32], b: usize) -> bool
-    requires { ⌜ (k ≤ 4) × ((j < 2 ^ 32) × ((slot < 2 ^ 32) × (b < 2 ^ 40))) ⌝ }
-    ensures { λ r. ⌜ r ≡ within (boxAt (now (q .entry)) k b) (keyIn (now (p .entry)) k j slot) ⌝ }
+// The keys in domain d of the `count` points from word `at` on are at least lo and below hi.
+fn side_holds(p: &[u32], k: usize, at: usize, count: usize, d: usize, lo: usize, hi: usize) -> bool
+    requires { ⌜ Row (now p) (k + 1) at count × (d < k) ⌝ }
+    ensures { λ r. ⌜ r ≡ columnIn (now (p .entry)) k count d (record { lo = lo; hi = hi }) at ⌝ }
 {
-    let mut ok = true;
-    let mut d: usize = 0;
-    while d < k {
-        let key = point_key(p, k, j, slot, d);
-        ok = ok & ((lower_end(q, b, d) <= key) & (key < upper_end(q, k, b, d)));
-        d += 1;
-    }
-    ok
-}
-
-// The points in slots e and f of page j have the same keys.
-fn twins(p: &[u32], k: usize, j: usize, e: usize, f: usize) -> bool
-    requires { ⌜ (k ≤ 4) × ((j < 2 ^ 32) × ((e < 2 ^ 32) × (f < 2 ^ 32))) ⌝ }
-    ensures { λ r. ⌜ r ≡ same (keyIn (now (p .entry)) k j e) (keyIn (now (p .entry)) k j f) ⌝ }
-{
-    let mut ok = true;
-    let mut d: usize = 0;
-    while d < k {
-        ok = ok & (point_key(p, k, j, e, d) == point_key(p, k, j, f, d));
-        d += 1;
-    }
-    ok
-}
-
-// No point of page j from slot e + 1 to slot `to` has the keys of the one in slot e.
-fn differs(p: &[u32], k: usize, j: usize, e: usize, to: usize) -> bool
-    requires { ⌜ (k ≤ 4) × ((j < 2 ^ 32) × ((e < 2 ^ 31) × (to < 2 ^ 32))) ⌝ }
-    ensures { λ r. ⌜ r ≡ alone (keyIn (now (p .entry)) k j e) (keysIn (to - (e + 1)) (now (p .entry)) k j (e + 1)) ⌝ }
-{
-    let mut ok = true;
-    let mut f = e + 1;
-    while f < to {
-        ok = ok & !twins(p, k, j, e, f);
-        f += 1;
-    }
-    ok
-}
-
-// The `count` points of page j lie in the region at word b of q, and no two have the same keys.
-fn points_fit(p: &[u32], k: usize, j: usize, count: usize, q: &[u32], b: usize) -> bool
-    requires { ⌜ (k ≤ 4) × ((j < 2 ^ 32) × ((count < 2 ^ 31) × (b < 2 ^ 40))) ⌝ }
-    ensures { λ r. ⌜ r ≡ scattered (boxAt (now (q .entry)) k b) (keysIn count (now (p .entry)) k j 0) ⌝ }
-{
-    let mut ok = true;
+    let mut a = at;
     let mut e: usize = 0;
     while e < count {
-        ok = ok & (holds(p, k, j, e, q, b) & differs(p, k, j, e, count));
+        let x = read(p, a + d);
+        if x < lo {
+            return false;
+        }
+        if hi <= x {
+            return false;
+        }
+        a += k + 1;
         e += 1;
     }
-    ok
+    true
+}
+
+// The `count` points from word `at` on lie in the region at word b of q.
+fn all_hold(p: &[u32], k: usize, at: usize, count: usize, q: &[u32], b: usize) -> bool
+    requires { ⌜ Row (now p) (k + 1) at count × RegionIn (now q) k b ⌝ }
+    ensures { λ r. ⌜ r ≡ every (within (boxAt (now (q .entry)) k b)) (keysIn count (now (p .entry)) k at) ⌝ }
+{
+    let mut d: usize = 0;
+    while d < k {
+        if !side_holds(p, k, at, count, d, low(q, k, b, d), high(q, k, b, d)) {
+            return false;
+        }
+        d += 1;
+    }
+    true
+}
+
+// The points at words a and b have the same keys.
+fn twins(p: &[u32], k: usize, a: usize, b: usize) -> bool
+    requires { ⌜ PointIn (now p) k a × PointIn (now p) k b ⌝ }
+    ensures { λ r. ⌜ r ≡ same (keyIn (now (p .entry)) k a) (keyIn (now (p .entry)) k b) ⌝ }
+{
+    let mut d: usize = 0;
+    while d < k {
+        if read(p, a + d) != read(p, b + d) {
+            return false;
+        }
+        d += 1;
+    }
+    true
+}
+
+// None of the `left` points from word `at` on has the keys of the one at word a.
+fn differs(p: &[u32], k: usize, a: usize, at: usize, left: usize) -> bool
+    requires { ⌜ PointIn (now p) k a × Row (now p) (k + 1) at left ⌝ }
+    ensures { λ r. ⌜ r ≡ alone (keyIn (now (p .entry)) k a) (keysIn left (now (p .entry)) k at) ⌝ }
+{
+    let mut b = at;
+    let mut e: usize = 0;
+    while e < left {
+        if twins(p, k, a, b) {
+            return false;
+        }
+        b += k + 1;
+        e += 1;
+    }
+    true
+}
+
+// The point at word a is none of the `left` after it, if one of them has a first key with the same last byte; else it is told so.
+fn alone_if(p: &[u32], k: usize, a: usize, left: usize, met: bool) -> bool
+    requires { ⌜ Row (now p) (k + 1) a (left + 1) ⌝ }
+    ensures { λ r. ⌜ r ≡ cond met (alone (keyIn (now (p .entry)) k a) (keysIn left (now (p .entry)) k (a + (k + 1)))) true ⌝ }
+{
+    if met {
+        return differs(p, k, a, a + (k + 1), left);
+    }
+    true
+}
+
+// No two of the `count` points from word `at` on have the same keys. From the last point to the first; a mark for the last byte of each
+// first key, so that most are not held against any other.
+fn distinct(p: &[u32], k: usize, at: usize, count: usize) -> bool
+    requires { ⌜ Row (now p) (k + 1) at count × (1 ≤ k) ⌝ }
+    ensures { λ r. ⌜ r ≡ distinctOf (keysIn count (now (p .entry)) k at) ⌝ }
+{
+    let mut bytes: [u8; 256] = [0; 256];
+    let mut a = at + count * (k + 1);
+    let mut e = count;
+    while 0 < e {
+        a -= k + 1;
+        e -= 1;
+        let h = read(p, a) % 256;
+        if !alone_if(p, k, a, count - (e + 1), bytes[h] != 0) {
+            return false;
+        }
+        bytes[h] = 1;
+    }
+    true
 }
 
 // Page j is of this kind, has at most `full` entries, a domain below k and a zero word.
 fn head_good(p: &[u32], k: usize, j: usize, kind: usize, full: usize) -> bool
-    requires { ⌜ j < 2 ^ 32 ⌝ }
+    requires { ⌜ (j < 2 ^ 32) × (32 * j + 4 ≤ length (now p)) ⌝ }
     ensures { λ r. ⌜ r ≡ headOf (now (p .entry)) k j kind full ⌝ }
 {
-    (word(p, j, 0) == kind) & (word(p, j, 1) <= full) & (word(p, j, 2) < k) & (word(p, j, 3) == 0)
+    (read(p, 32 * j + 0) == kind)
+        & (read(p, 32 * j + 1) <= full)
+        & (read(p, 32 * j + 2) < k)
+        & (read(p, 32 * j + 3) == 0)
 }
 
 // Page j of n is a point page of the region at word b of q.
@@ -99,14 +143,17 @@ fn point_page(p: &[u32], n: usize, k: usize, j: usize, q: &[u32], b: usize) -> b
     requires { ⌜ Held (now p) n k (now q) b × Numbered n j ⌝ }
     ensures { λ r. ⌜ r ≡ soundPoints L (now (p .entry)) j (regionIn k (now (q .entry)) b) ⌝ }
 {
-    let count = word(p, j, 1);
+    let count = read(p, 32 * j + 1);
     if !head_good(p, k, j, 2, points_per(k)) {
         return false;
     }
     if !zeros(p, 32 * j + 4 + count * (k + 1), 32 * j + 32) {
         return false;
     }
-    points_fit(p, k, j, count, q, b)
+    if !all_hold(p, k, 32 * j + 4, count, q, b) {
+        return false;
+    }
+    distinct(p, k, 32 * j + 4, count)
 }
 
 // Page j of n is a region page of the region at word b of q.
@@ -114,7 +161,7 @@ fn region_page(p: &[u32], n: usize, k: usize, j: usize, q: &[u32], b: usize) -> 
     requires { ⌜ Held (now p) n k (now q) b × Numbered n j ⌝ }
     ensures { λ r. ⌜ r ≡ soundRegions L (now (p .entry)) j (regionIn k (now (q .entry)) b) ⌝ }
 {
-    let count = word(p, j, 1);
+    let count = read(p, 32 * j + 1);
     if !(head_good(p, k, j, 1, regions_per(k)) & (1 <= count)) {
         return false;
     }
@@ -145,7 +192,7 @@ fn leaf(p: &[u32], n: usize, k: usize, j: usize, q: &[u32], b: usize, left: usiz
     if !point_page(p, n, k, j, q, b) {
         return Seen { bad: true, left };
     }
-    let count = word(p, j, 1);
+    let count = read(p, 32 * j + 1);
     if left < count {
         return Seen { bad: true, left };
     }
@@ -181,12 +228,12 @@ fn page(
     if !region_page(p, n, k, j, q, b) {
         return Seen { bad: true, left };
     }
-    let count = word(p, j, 1);
+    let count = read(p, 32 * j + 1);
     let mut u = Seen { bad: false, left };
     let mut at = 32 * j + 4;
     let mut e: usize = 0;
     while e < count {
-        u = page(p, n, k, level - 1, child(p, k, at), p, at, met, u);
+        u = page(p, n, k, level - 1, read(p, at + 2 * k), p, at, met, u);
         at += 2 * k + 1;
         e += 1;
     }

@@ -1,5 +1,5 @@
 pub mod Tests
 pub mod Tile
-pub mod Turns
-pub mod Pieces
+pub mod Grid
+pub mod Loops
 pub mod Regions

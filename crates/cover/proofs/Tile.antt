@@ -4,15 +4,18 @@ use mathlib.Core.List.{List, [], _∷_}
 use mathlib.Core.Path.{_≡_, refl, sym, ap, ap₂, _∙_}
 use Prim.Native.Nat.{ℕ, zero, suc, _+_, _-_, _<_, _≤_, min, max}
 use native.Mathlib.Omega.{arith}
-use lib.Dec.{T, leb, ltb, leb→le, le→leb, ltb→lt, lt→ltb}
+use lib.Dec.{T, leb, ltb, eqb, leb→le, le→leb, ltb→lt, lt→ltb, eqb→eq, T-not}
 use lib.ListN.{length}
-use Rattle.kdb.specs.Lists.{every}
+use borrow.Author.Tests.{eq-eqb}
+use Rattle.kdb.specs.Lists.{bit, every, Each}
 use Rattle.kdb.specs.Box.{Side, Box, Key, within, solid}
-use Rattle.kdb.specs.Tiling.{share, apart, covers, tiles}
-use Rattle.kdb.proofs.Lists.{and-l, and-r, and-i, bool-eq, is-true, is-false, to-bit, of-bit, cases}
+use Rattle.kdb.specs.Tiling.{holders, share, apart, covers, tiles}
+use Rattle.kdb.proofs.Lists.{and-l, and-r, and-i, bool, bool-eq, to-bit, of-bit, of-true, no-bit}
 use Rattle.kdb.proofs.Box.{within-i, within-e}
-use Rattle.kdb.proofs.Tiling.{low, low-in, Held, covers-says, says-covers}
+use Rattle.kdb.proofs.Tiling.{low, low-in, Held, covers-says, says-covers, tiles-iff, tiles-counted, counted-tiles}
 use Rattle.cover.specs.Boxes.{insideSide, insideOf, overlapSide, overlap, clearOf, fitting}
+use Rattle.cover.specs.Volume.{volumeOf, volumesOf}
+use Rattle.cover.proofs.Grid.{Under, volumes-most, volumes-each, each-volumes}
 
 -- one side inside another
 record InSide (s t : Side) : Type 0 where
@@ -68,6 +71,12 @@ says-inside (s ∷ e) (z ∷ r) t f =
     let b = within-e z (s .hi - 1) r (low e) (f ((s .hi - 1) ∷ low e) (within-i s (s .hi - 1) e (low e) (omega arith) (omega arith) (low-in e u))) in
     and-i (insideSide s z) _ (side-in s z (record { some = h; low = a .0; high = omega (arith, b .1) }))
     (says-inside e r u (λ p g. within-e z (s .lo) r p (f (s .lo ∷ p) (within-i s (s .lo) e p (omega arith) h g)) .2))
+
+inside-under : (e r : Box) → T (insideOf e r) → Under e r
+inside-under [] [] t = tt
+inside-under [] (z ∷ r) t = absurd t
+inside-under (s ∷ e) [] t = absurd t
+inside-under (s ∷ e) (z ∷ r) t = (in-side s z (and-l (insideSide s z) _ t) .high, inside-under e r (and-r (insideSide s z) _ t))
 
 -- regions that are not empty
 overlap-share : (b c : Box) → T (solid b) → T (solid c) → overlap b c ≡ share b c
@@ -141,5 +150,50 @@ fit-solid r (e ∷ es) h t = inside-says e r (and-l (insideOf e r) _ (and-l (ins
 pub tiles-no : (r : Box) (bs : List Box) → fitting r bs ≡ false → false ≡ tiles r bs
 tiles-no r bs e = rw (sym (fit-is r bs) ∙ e)
 
-pub tiles-yes : (r : Box) (bs : List Box) → fitting r bs ≡ true → covers bs r ≡ tiles r bs
-tiles-yes r bs e = rw (sym (fit-is r bs) ∙ e)
+-- regions that fit: their keys lie in r, and no key in two of them
+fit-under : (r : Box) (bs : List Box) → T (fitting r bs) → Each (λ b. Under b r) bs
+fit-under r [] t = tt
+fit-under r (e ∷ es) t =
+    let h = and-l (insideOf e r && clearOf e es) _ t in
+    (inside-under e r (and-l (insideOf e r) _ h), fit-under r es (and-r (insideOf e r && clearOf e es) _ t))
+
+overlap-of : (b c : Box) (p : Key) → T (within b p) → T (within c p) → T (overlap b c)
+overlap-of [] [] p h g = tt
+overlap-of [] (z ∷ c) [] h g = g
+overlap-of [] (z ∷ c) (x ∷ p) h g = h
+overlap-of (s ∷ b) [] [] h g = h
+overlap-of (s ∷ b) [] (x ∷ p) h g = g
+overlap-of (s ∷ b) (z ∷ c) [] h g = absurd h
+overlap-of (s ∷ b) (z ∷ c) (x ∷ p) h g =
+    let i = within-e s x b p h in
+    let j = within-e z x c p g in
+    and-i (overlapSide s z) _ (and-i (ltb (s .lo) (z .hi)) _ (lt→ltb (s .lo) (z .hi) (omega arith)) (lt→ltb (z .lo) (s .hi) (omega arith))) (overlap-of b c p (i .2) (j .2))
+
+clear-none : (e : Box) (es : List Box) (p : Key) → T (clearOf e es) → T (within e p) → holders es p ≡ 0
+clear-none e [] p t h = refl
+clear-none e (c ∷ es) p t h =
+    omega (arith, no-bit (within c p) (λ g. T-not (overlap e c) (and-l (not (overlap e c)) _ t) (overlap-of e c p h g)), clear-none e es p (and-r (not (overlap e c)) _ t) h)
+
+fit-holders : (r : Box) (bs : List Box) → T (fitting r bs) → (p : Key) → holders bs p ≤ bit (within r p)
+fit-holders r [] t p = omega arith
+fit-holders r (e ∷ es) t p =
+    let h = and-l (insideOf e r && clearOf e es) _ t in
+    bool (within e p)
+    (λ y. omega (arith, to-bit (within e p) y, clear-none e es p (and-r (insideOf e r) _ h) y, to-bit (within r p) (inside-says e r (and-l (insideOf e r) _ h) .keys p y)))
+    (λ n. omega (arith, no-bit (within e p) (T-not (within e p) n), fit-holders r es (and-r (insideOf e r && clearOf e es) _ t) p))
+
+pub fit-solids : (r : Box) (bs : List Box) → T (fitting r bs) → T (every solid bs)
+fit-solids r bs t = fit-three r bs t .solids
+
+-- so they have together at most the keys of r, and all of them exactly if they tile it
+pub fit-volumes : (r : Box) (bs : List Box) → T (fitting r bs) → volumesOf bs ≤ volumeOf r
+fit-volumes r bs t = volumes-most r bs (fit-under r bs t) (fit-holders r bs t)
+
+pub fit-tiles : (r : Box) (bs : List Box) → fitting r bs ≡ true → eqb (volumesOf bs) (volumeOf r) ≡ tiles r bs
+fit-tiles r bs e =
+    let t = of-true (fitting r bs) e in
+    let u = fit-under r bs t in
+    let h = fit-holders r bs t in
+    bool-eq (eqb (volumesOf bs) (volumeOf r)) (tiles r bs)
+    (λ y. tiles-iff r bs .1 (counted-tiles r bs (record { solids = fit-solids r bs t; once = volumes-each r bs u h (eqb→eq (volumesOf bs) (volumeOf r) y) })))
+    (λ y. of-true _ (eq-eqb (volumesOf bs) (volumeOf r) (each-volumes r bs u h (tiles-counted r bs (tiles-iff r bs .0 y) .once))))

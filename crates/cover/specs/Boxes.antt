@@ -31,18 +31,11 @@ regionIn k w a = sides (take k (drop a w)) (take k (drop (a + k) w))
 abbrev pub regionsIn : ℕ → ℕ → List ℕ → ℕ → List Box
 regionsIn k n w a = map (λ e. e .box) (readEnts k n (drop a w))
 
--- places that no sum of them passes the largest number
-pub record Near (k at count b : ℕ) : Type 0 where
-  pub domains : k ≤ 4
-  pub from : at < 2 ^ 32
-  pub some : 1 ≤ count
-  pub few : count < 2 ^ 32
-  pub region : b < 2 ^ 32
-
--- the regions and the region lie in the words
-pub record Within (w : List ℕ) (k at count : ℕ) (v : List ℕ) (b : ℕ) : Type 0 where
-  pub entries : at + count * (2 * k + 1) ≤ length w
-  pub region : b + 2 * k ≤ length v
+-- count entries of d words from word a on end within the words
+pub record Row (w : List ℕ) (d a count : ℕ) : Type 0 where
+  pub wide : d ≤ 9
+  pub near : length w < 2 ^ 40
+  pub ends : a + count * d ≤ length w
 
 -- a test of each side of one region and that of the other
 abbrev pub sideBySide : (Side → Side → Bool) → Box → Box → Bool

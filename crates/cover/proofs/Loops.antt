@@ -1,0 +1,158 @@
+-- Laws of the loops that leave at the first test that fails, and of running over regions and adding up their volumes.
+use mathlib.Core.Bool.{Bool, true, false, _&&_}
+use mathlib.Core.List.{List, [], _∷_}
+use mathlib.Core.Path.{_≡_, refl, sym, ap, _∙_}
+use Prim.Native.Nat.{ℕ, zero, suc, _+_, _-_, _*_, _^_, _/_, _%_, _<_, _≤_}
+use native.Mathlib.Omega.{arith}
+use native.Mathlib.Nat.{suc-mul, add-mul, mul-assoc, mul-right-comm, mul-le-mul, mul-le-mul-right, one-mul, mul-one, sub-add-cancel, sub-zero, div-add-mod'}
+use native.Mathlib.Numerals.{add-one}
+use lib.Dec.{T, leb, ltb, leb→le, nleb→lt, ltb→lt, nltb→le}
+use lib.ListN.{length, getD}
+use Rattle.kdb.specs.Lists.{every}
+use Rattle.kdb.specs.Box.{solid}
+use Rattle.kdb.proofs.Lists.{bool, and-l, and-r}
+use Rattle.words.specs.Loops.{allBy}
+use Rattle.words.specs.Words.{RegionIn}
+use Rattle.cover.specs.Boxes.{sidesBy, sideAt, boxAt, boxesAt, Row}
+use Rattle.cover.specs.Volume.{volumeOf, volumesOf, value}
+use Rattle.cover.specs.declared.Amount.{Amount}
+
+all-false : (n : ℕ) (f : ℕ → ℕ → Bool) (d a : ℕ) → allBy n f d a false ≡ false
+unfolding allBy
+all-false zero f d a = refl
+all-false (suc n) f d a = all-false n f d (a + d)
+
+module _ (c e : ℕ) (f : ℕ → ℕ → Bool) (d a : ℕ) (w : Bool) where
+  pub all-on : allBy (c - e) f d a true ≡ w → e < c → f (c - (e + 1)) a ≡ true → allBy (c - (e + 1)) f d (a + d) true ≡ w
+  unfolding allBy
+  all-on v h t = let q : c - e ≡ suc (c - (e + 1)) = omega arith in sym (ap (allBy (c - (e + 1)) f d (a + d)) t) ∙ (rw q at v)
+
+  pub all-stop : allBy (c - e) f d a true ≡ w → e < c → f (c - (e + 1)) a ≡ false → false ≡ w
+  unfolding allBy
+  all-stop v h t = let q : c - e ≡ suc (c - (e + 1)) = omega arith in sym (all-false (c - (e + 1)) f d (a + d)) ∙ (sym (ap (allBy (c - (e + 1)) f d (a + d)) t) ∙ (rw q at v))
+
+-- the first of the entries that are left, and those after it
+module _ (w : List ℕ) (d a c e : ℕ) (h : Row w d a (c - e)) (l : e < c) where
+  pub row-next : Row w d (a + d) (c - (e + 1))
+  row-next =
+      let q : c - e ≡ suc (c - (e + 1)) = omega arith in
+      record { wide = h .wide; near = h .near; ends = omega (arith, suc-mul (c - (e + 1)) d, rw q at (h .ends)) }
+
+  pub row-first : a + d ≤ length w
+  row-first = let r = row-next in omega arith
+
+pub region-first : (w : List ℕ) (k a c e : ℕ) → Row w (2 * k + 1) a (c - e) → e < c → RegionIn w k a
+region-first w k a c e h l = let r = row-first w (2 * k + 1) a c e h l in record { few = omega (arith, h .wide); near = omega (arith, h .near); ends = omega arith }
+
+-- two factors below 2 ^ 32, and v times w by halves of the lower word
+pub factors : (x w : ℕ) → x < 2 ^ 32 → w < 2 ^ 32 → x * w ≤ 18446744065119617025
+factors x w h g = mul-le-mul {n₂ = 4294967295} {m₂ = 4294967295} (omega arith) (omega arith)
+
+times-is : (h l w : ℕ)
+    → (h * w + (l / 4294967296 * w + l % 4294967296 * w / 4294967296) / 4294967296) * 2 ^ 64
+    + ((l / 4294967296 * w + l % 4294967296 * w / 4294967296) % 4294967296 * 4294967296 + l % 4294967296 * w % 4294967296) ≡ (h * 2 ^ 64 + l) * w
+times-is h l w =
+    let a : (h * 2 ^ 64 + l) * w ≡ h * w * 2 ^ 64 + l * w = add-mul (h * 2 ^ 64) l w ∙ ap (λ (n : ℕ). n + l * w) (mul-right-comm h (2 ^ 64) w) in
+    let b : l * w ≡ l / 4294967296 * w * 4294967296 + l % 4294967296 * w =
+    ap (λ (n : ℕ). n * w) (sym (div-add-mod' l 4294967296))
+    ∙ (add-mul (l / 4294967296 * 4294967296) (l % 4294967296) w ∙ ap (λ (n : ℕ). n + l % 4294967296 * w) (mul-right-comm (l / 4294967296) 4294967296 w)) in
+    omega arith
+
+-- one number of two words less another: the base m of the words is left unknown
+module _ (m h l g n : ℕ) (lm : l < m) (nm : n < m) (le : g * m + n ≤ h * m + l) where
+  less-high : g ≤ h
+  less-high = bool (leb g h) (leb→le g h) (λ t. let z = nleb→lt g h t in absurd (omega (arith, mul-le-mul-right {m = suc h} {n = g} m (omega arith), suc-mul h m)))
+
+  -- without and with a carry
+  less-plain : n ≤ l → (h - g) * m + (l - n) + (g * m + n) ≡ h * m + l
+  less-plain q = omega (arith, ap (λ (x : ℕ). x * m) (sub-add-cancel less-high), add-mul (h - g) g m)
+
+  less-strict : l < n → g < h
+  less-strict q = bool (ltb g h) (ltb→lt g h) (λ t. let z = nltb→le g h t in absurd (omega (arith, mul-le-mul-right m z)))
+
+  less-carry : l < n → (h - g - 1) * m + (l + (m - 1 - n) + 1) + (g * m + n) ≡ h * m + l
+  less-carry q =
+      let z : h - g - 1 + suc g ≡ h = omega (arith, less-strict q) in
+      omega (arith, ap (λ (x : ℕ). x * m) z, add-mul (h - g - 1) (suc g) m, suc-mul g m)
+
+-- the same of the numbers that code holds
+pub times-value : (v r : Amount) (w : ℕ)
+    → r ≡ record { hi = v .hi * w + (v .lo / 4294967296 * w + v .lo % 4294967296 * w / 4294967296) / 4294967296; lo = (v .lo / 4294967296 * w + v .lo % 4294967296 * w / 4294967296) % 4294967296 * 4294967296 + v .lo % 4294967296 * w % 4294967296 }
+    → value r ≡ value v * w
+unfolding value
+times-value v r w e = rw e (times-is (v .hi) (v .lo) w)
+
+module _ (v w : Amount) (vs : v .lo < 2 ^ 64) (ws : w .lo < 2 ^ 64) (le : value w ≤ value v) where
+  pub carry-high : v .lo < w .lo → w .hi < v .hi
+  unfolding value
+  carry-high = less-strict (2 ^ 64) (v .hi) (v .lo) (w .hi) (w .lo) vs ws le
+
+  pub carry-value : (r : Amount) → r ≡ record { hi = v .hi - w .hi - 1; lo = v .lo + (18446744073709551615 - w .lo) + 1 } → v .lo < w .lo → value r + value w ≡ value v
+  unfolding value
+  carry-value r e h = rw e (less-carry (2 ^ 64) (v .hi) (v .lo) (w .hi) (w .lo) vs ws le h)
+
+  pub plain-high : w .hi ≤ v .hi
+  unfolding value
+  plain-high = less-high (2 ^ 64) (v .hi) (v .lo) (w .hi) (w .lo) vs ws le
+
+  pub plain-value : (r : Amount) → r ≡ record { hi = v .hi - w .hi; lo = v .lo - w .lo } → w .lo ≤ v .lo → value r + value w ≡ value v
+  unfolding value
+  plain-value r e h = rw e (less-plain (2 ^ 64) (v .hi) (v .lo) (w .hi) (w .lo) vs ws le h)
+
+pub value-none : (v : Amount) → v .hi ≡ 0 → v .lo ≡ 0 → value v ≡ 0
+unfolding value
+value-none v h l = rw (h, l)
+
+pub none-value : (v : Amount) → value v ≡ 0 → (v .hi ≡ 0) × (v .lo ≡ 0)
+unfolding value
+none-value v e = (omega arith, omega arith)
+
+-- what a product of i sides does not pass
+unfoldable pub bound : ℕ → ℕ
+bound zero = 1
+bound (suc i) = bound i * 4294967295
+
+bound-three : (i : ℕ) → i < 4 → bound i < 2 ^ 96
+unfolding bound
+bound-three zero h = omega arith
+bound-three (suc zero) h = omega arith
+bound-three (suc (suc zero)) h = omega arith
+bound-three (suc (suc (suc zero))) h = omega arith
+bound-three (suc (suc (suc (suc i)))) h = absurd (omega arith)
+
+-- v is the product of the sides before domain i of the region at word a
+pub record Sides (w : List ℕ) (k a : ℕ) (v : Amount) (i : ℕ) : Type 0 where
+  pub product : value v * volumeOf (sidesBy (k - i) (sideAt w k a) i) ≡ volumeOf (boxAt w k a)
+  pub some : T (solid (sidesBy (k - i) (sideAt w k a) i))
+  pub small : value v ≤ bound i
+
+pub sides-all : (w : List ℕ) (k a : ℕ) → T (solid (boxAt w k a)) → Sides w k a (record { hi = 0; lo = 1 }) 0
+unfolding bound value
+sides-all w k a t =
+    let q = sub-zero k in
+    record { product = rw q (omega (arith, one-mul (volumeOf (boxAt w k a)))); some = rw q t; small = omega arith }
+
+module _ (w : List ℕ) (k a : ℕ) (v : Amount) (i : ℕ) (s : Sides w k a v i) where
+  pub sides-end : k ≤ i → value v ≡ volumeOf (boxAt w k a)
+  sides-end h = let q : k - i ≡ 0 = omega arith in sym (mul-one (value v)) ∙ (rw q at (s .product))
+
+  module _ (l : i < k) where
+    one-left : k - i ≡ suc (k - (i + 1))
+    one-left = omega arith
+
+    -- the side in domain i is not empty, and the product so far is below 2 ^ 96
+    pub side-some : getD w (a + i) 0 < getD w (a + k + i) 0
+    side-some = ltb→lt _ _ (and-l (ltb (getD w (a + i) 0) (getD w (a + k + i) 0)) _ (rw one-left at (s .some)))
+
+    pub side-small : k ≤ 4 → v .hi < 2 ^ 32
+    unfolding value
+    side-small f = omega (arith, s .small, bound-three i (omega arith))
+
+    pub sides-next : (r : Amount) → getD w (a + k + i) 0 < 2 ^ 32 → value r ≡ value v * (getD w (a + k + i) 0 - getD w (a + i) 0) → Sides w k a r (i + 1)
+    unfolding bound
+    sides-next r f e =
+        record {
+          product = ap (λ (n : ℕ). n * volumeOf (sidesBy (k - (i + 1)) (sideAt w k a) (i + 1))) e ∙ (mul-assoc (value v) _ _ ∙ (rw one-left at (s .product)));
+          some = and-r (ltb (getD w (a + i) 0) (getD w (a + k + i) 0)) _ (rw one-left at (s .some));
+          small = rw (add-one i, e) (mul-le-mul (s .small) (omega arith));
+        }

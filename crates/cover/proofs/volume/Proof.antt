@@ -1,0 +1,65 @@
+-- `cover::volume` meets its contract: the product of the sides, which for at most four does not pass two words.
+use Prim.Native.Nat.{_-_}
+use mathlib.Core.Path.{_≡_}
+use Rattle.cover.proofs.Loops.{Sides, sides-all, side-some, side-small, sides-next, sides-end}
+use borrow.Author.Needs.{needs}
+use native.Mathlib.Omega.{arith}
+use Rattle.cover.proofs.volume.Statement.{statement}
+use Rattle.cover.proofs.volume.Tie as tie
+use Rattle.cover.proofs.volume.Reads as reads
+use Rattle.cover.proofs.volume.Lts as lts
+use Rattle.cover.proofs.times.Reads as times-reads
+use Rattle.cover.proofs.high.Reads as high-reads
+use Rattle.cover.proofs.low.Reads as low-reads
+
+abbrev Inv-loop : tie.InvT-loop
+Inv-loop p k a v₀ i₀ v i = Sides p k a v i
+
+abbrev μ-loop : tie.MeasureT-loop
+μ-loop p k a v₀ i₀ v i = k - i
+
+loop-holds : tie.Need-loop-holds Inv-loop μ-loop
+loop-holds c = let x = c .before .args in sides-all (x .p .now) (x .k) (x .a) (c .before .pre .1)
+
+low-requires : tie.Need-low-requires Inv-loop μ-loop
+low-requires c κs = search needs
+
+high-requires : tie.Need-high-requires Inv-loop μ-loop
+high-requires c κs = search needs
+
+sub-times : tie.Need-sub-times Inv-loop μ-loop
+sub-times c = let x = c .before .before .before .before .before .args in
+    omega (arith, c .high .ensures .0, c .before .low .ensures .0, side-some (x .p .now) (x .k) (x .a) _ _ (c .before .before .before .loop .inv) (omega arith))
+
+times-requires : tie.Need-times-requires Inv-loop μ-loop
+times-requires c κs = let x = c .before .before .before .before .before .args in
+    (side-small (x .p .now) (x .k) (x .a) _ _ (c .before .before .before .loop .inv) (omega arith) (omega arith), omega (arith, c .high .ensures .1))
+
+add-i : tie.Need-add-i Inv-loop μ-loop
+add-i c = search needs
+
+loop-less : tie.Need-loop-less Inv-loop μ-loop
+loop-less c = search needs
+
+loop-again : tie.Need-loop-again Inv-loop μ-loop
+loop-again c = sides-next _ _ _ _ _ (c .before .before .before .before .loop .inv) (omega arith) _ (omega (arith, c .before .high .ensures .0, c .before .high .ensures .1))
+    (rw (c .before .high .ensures .0, c .before .before .low .ensures .0) at (c .times .ensures))
+
+returns : tie.Need-returns Inv-loop μ-loop
+returns c = sides-end _ _ _ _ _ (c .before .loop .inv) (omega arith)
+
+pub volume-spec : {M : Type 1} → statement M
+volume-spec =
+    tie.close
+    (tie.spec
+    Inv-loop
+    μ-loop
+    loop-holds
+    low-requires
+    high-requires
+    sub-times
+    times-requires
+    add-i
+    loop-less
+    loop-again
+    returns)
