@@ -14,7 +14,7 @@ use Rattle.kdb.proofs.Lists.{bool, and-l, and-r}
 use Rattle.words.specs.Loops.{allBy}
 use Rattle.words.specs.Words.{RegionIn}
 use Rattle.cover.specs.Boxes.{sidesBy, sideAt, boxAt, boxesAt, Row}
-use Rattle.cover.specs.Volume.{volumeOf, volumesOf, value}
+use Rattle.cover.specs.Volume.{volumeOf, value, bound, Sides}
 use Rattle.cover.specs.declared.Amount.{Amount}
 
 all-false : (n : ℕ) (f : ℕ → ℕ → Bool) (d a : ℕ) → allBy n f d a false ≡ false
@@ -99,6 +99,10 @@ module _ (v w : Amount) (vs : v .lo < 2 ^ 64) (ws : w .lo < 2 ^ 64) (le : value 
   unfolding value
   plain-value r e h = rw e (less-plain (2 ^ 64) (v .hi) (v .lo) (w .hi) (w .lo) vs ws le h)
 
+value-low : (n : ℕ) → value (record { hi = 0; lo = n }) ≡ n
+unfolding value
+value-low n = omega arith
+
 pub value-none : (v : Amount) → v .hi ≡ 0 → v .lo ≡ 0 → value v ≡ 0
 unfolding value
 value-none v h l = rw (h, l)
@@ -106,11 +110,6 @@ value-none v h l = rw (h, l)
 pub none-value : (v : Amount) → value v ≡ 0 → (v .hi ≡ 0) × (v .lo ≡ 0)
 unfolding value
 none-value v e = (omega arith, omega arith)
-
--- what a product of i sides does not pass
-unfoldable pub bound : ℕ → ℕ
-bound zero = 1
-bound (suc i) = bound i * 4294967295
 
 bound-three : (i : ℕ) → i < 4 → bound i < 2 ^ 96
 unfolding bound
@@ -120,13 +119,7 @@ bound-three (suc (suc zero)) h = omega arith
 bound-three (suc (suc (suc zero))) h = omega arith
 bound-three (suc (suc (suc (suc i)))) h = absurd (omega arith)
 
--- v is the product of the sides before domain i of the region at word a
-pub record Sides (w : List ℕ) (k a : ℕ) (v : Amount) (i : ℕ) : Type 0 where
-  pub product : value v * volumeOf (sidesBy (k - i) (sideAt w k a) i) ≡ volumeOf (boxAt w k a)
-  pub some : T (solid (sidesBy (k - i) (sideAt w k a) i))
-  pub small : value v ≤ bound i
-
-pub sides-all : (w : List ℕ) (k a : ℕ) → T (solid (boxAt w k a)) → Sides w k a (record { hi = 0; lo = 1 }) 0
+sides-all : (w : List ℕ) (k a : ℕ) → T (solid (boxAt w k a)) → Sides w k a (record { hi = 0; lo = 1 }) 0
 unfolding bound value
 sides-all w k a t =
     let q = sub-zero k in
@@ -156,3 +149,29 @@ module _ (w : List ℕ) (k a : ℕ) (v : Amount) (i : ℕ) (s : Sides w k a v i)
           some = and-r (ltb (getD w (a + i) 0) (getD w (a + k + i) 0)) _ (rw one-left at (s .some));
           small = rw (add-one i, e) (mul-le-mul (s .small) (omega arith));
         }
+
+-- the first side, and the first two, of a region that is not empty
+module _ (w : List ℕ) (k a : ℕ) (t : T (solid (boxAt w k a))) (f : getD w (a + k + 0) 0 < 2 ^ 32) where
+  pub first-some : 1 ≤ k → getD w (a + 0) 0 < getD w (a + k + 0) 0
+  first-some h = side-some w k a (record { hi = 0; lo = 1 }) 0 (sides-all w k a t) h
+
+  first-sides : (h : 1 ≤ k) → Sides w k a (record { hi = 0; lo = getD w (a + k + 0) 0 - getD w (a + 0) 0 }) 1
+  unfolding value
+  first-sides h = sides-next w k a (record { hi = 0; lo = 1 }) 0 (sides-all w k a t) h (record { hi = 0; lo = getD w (a + k + 0) 0 - getD w (a + 0) 0 }) f (omega (arith, one-mul (getD w (a + k + 0) 0 - getD w (a + 0) 0)))
+
+  pub one-side : k ≡ 1 → Sides w k a (record { hi = 0; lo = getD w (a + k + 0) 0 - getD w (a + 0) 0 }) 2
+  unfolding bound value
+  one-side e =
+      let s = first-sides (omega arith) in
+      let q : k - 1 ≡ 0 = omega arith in
+      let z : k - 2 ≡ 0 = omega arith in
+      record { product = rw z (rw q at (s .product)); some = rw z tt; small = omega (arith, s .small) }
+
+  pub second-some : 2 ≤ k → getD w (a + 1) 0 < getD w (a + k + 1) 0
+  second-some h = side-some w k a (record { hi = 0; lo = getD w (a + k + 0) 0 - getD w (a + 0) 0 }) 1 (first-sides (omega arith)) h
+
+  pub two-sides : 2 ≤ k → getD w (a + k + 1) 0 < 2 ^ 32 → Sides w k a (record { hi = 0; lo = (getD w (a + k + 0) 0 - getD w (a + 0) 0) * (getD w (a + k + 1) 0 - getD w (a + 1) 0) }) 2
+  two-sides h g =
+      sides-next w k a (record { hi = 0; lo = getD w (a + k + 0) 0 - getD w (a + 0) 0 }) 1 (first-sides (omega arith)) h
+      (record { hi = 0; lo = (getD w (a + k + 0) 0 - getD w (a + 0) 0) * (getD w (a + k + 1) 0 - getD w (a + 1) 0) }) g
+      (value-low _ ∙ ap (λ (n : ℕ). n * (getD w (a + k + 1) 0 - getD w (a + 1) 0)) (sym (value-low (getD w (a + k + 0) 0 - getD w (a + 0) 0))))

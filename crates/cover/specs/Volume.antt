@@ -1,7 +1,10 @@
 -- How many keys a region holds, and such a number in two words of 64 bits.
 use mathlib.Core.List.{List, [], _∷_}
-use Prim.Native.Nat.{ℕ, _+_, _*_, _-_, _^_}
-use Rattle.kdb.specs.Box.{Box}
+use mathlib.Core.Path.{_≡_}
+use Prim.Native.Nat.{ℕ, zero, suc, _+_, _*_, _-_, _^_, _≤_}
+use lib.Dec.{T}
+use Rattle.kdb.specs.Box.{Box, solid}
+use Rattle.cover.specs.Boxes.{sidesBy, sideAt, boxAt}
 use Rattle.cover.specs.declared.Amount.{Amount}
 
 -- the keys of one region, and of regions of which no two share a key
@@ -16,3 +19,14 @@ volumesOf (b ∷ bs) = volumeOf b + volumesOf bs
 -- the number in two words
 unfoldable pub value : Amount → ℕ
 value v = v .hi * 2 ^ 64 + v .lo
+
+-- what a product of i sides does not pass
+unfoldable pub bound : ℕ → ℕ
+bound zero = 1
+bound (suc i) = bound i * 4294967295
+
+-- v is the product of the sides before domain i of the region at word a
+pub record Sides (w : List ℕ) (k a : ℕ) (v : Amount) (i : ℕ) : Type 0 where
+  pub product : value v * volumeOf (sidesBy (k - i) (sideAt w k a) i) ≡ volumeOf (boxAt w k a)
+  pub some : T (solid (sidesBy (k - i) (sideAt w k a) i))
+  pub small : value v ≤ bound i

@@ -10,7 +10,7 @@ ghost use Rattle.kdb.specs.Box.{solid};
 ghost use Rattle.kdb.specs.Tiling.{tiles};
 ghost use Rattle.words.specs.Words.{RegionIn};
 ghost use Rattle.cover.specs.Boxes.{boxAt, boxesAt, insideOf, overlap, clearOf, fitting, Row, regionIn, regionsIn};
-ghost use Rattle.cover.specs.Volume.{value, volumeOf};
+ghost use Rattle.cover.specs.Volume.{value, volumeOf, Sides};
 
 // The lower end in domain i of the region at word a.
 pub fn low(p: &[u32], k: usize, a: usize, i: usize) -> usize
@@ -133,13 +133,30 @@ fn less(v: Amount, w: Amount) -> Amount
     }
 }
 
+// The product of the first two sides of the region at word a, or of the only one: it fits in one word.
+fn plane(p: &[u32], k: usize, a: usize) -> usize
+    requires { ⌜ RegionIn (now p) k a × (T (solid (boxAt (now p) k a)) × (1 ≤ k)) ⌝ }
+    ensures { λ r. ⌜ Sides (now (p .entry)) k a (record { hi = 0; lo = r }) 2 ⌝ }
+{
+    let x = low(p, k, a, 0);
+    let first = high(p, k, a, 0) - x;
+    if k == 1 {
+        return first;
+    }
+    let y = low(p, k, a, 1);
+    first * (high(p, k, a, 1) - y)
+}
+
 // How many keys the region at word a holds, which is not empty.
 fn volume(p: &[u32], k: usize, a: usize) -> Amount
-    requires { ⌜ RegionIn (now p) k a × T (solid (boxAt (now p) k a)) ⌝ }
+    requires { ⌜ RegionIn (now p) k a × (T (solid (boxAt (now p) k a)) × (1 ≤ k)) ⌝ }
     ensures { λ r. ⌜ value r ≡ volumeOf (boxAt (now (p .entry)) k a) ⌝ }
 {
-    let mut v = Amount { hi: 0, lo: 1 };
-    let mut i: usize = 0;
+    let mut v = Amount {
+        hi: 0,
+        lo: plane(p, k, a),
+    };
+    let mut i: usize = 2;
     while i < k {
         let x = low(p, k, a, i);
         v = times(v, high(p, k, a, i) - x);
@@ -150,7 +167,7 @@ fn volume(p: &[u32], k: usize, a: usize) -> Amount
 
 // The `count` regions from word `at` on, which fit in the region at word b of q, have together as many keys.
 fn filled(p: &[u32], k: usize, at: usize, count: usize, q: &[u32], b: usize) -> bool
-    requires { ⌜ Row (now p) (2 * k + 1) at count × (RegionIn (now q) k b × ((1 ≤ count) × (fitting (boxAt (now q) k b) (boxesAt count (now p) k at) ≡ true))) ⌝ }
+    requires { ⌜ Row (now p) (2 * k + 1) at count × (RegionIn (now q) k b × ((1 ≤ count) × ((1 ≤ k) × (fitting (boxAt (now q) k b) (boxesAt count (now p) k at) ≡ true)))) ⌝ }
     ensures { λ r. ⌜ r ≡ tiles (boxAt (now (q .entry)) k b) (boxesAt count (now (p .entry)) k at) ⌝ }
 {
     let mut left = volume(q, k, b);
@@ -166,7 +183,7 @@ fn filled(p: &[u32], k: usize, at: usize, count: usize, q: &[u32], b: usize) -> 
 
 // The `count` regions from word `at` on tile the region at word b of q.
 pub fn tiled(p: &[u32], k: usize, at: usize, count: usize, q: &[u32], b: usize) -> bool
-    requires { ⌜ Row (now p) (2 * k + 1) at count × (RegionIn (now q) k b × (1 ≤ count)) ⌝ }
+    requires { ⌜ Row (now p) (2 * k + 1) at count × (RegionIn (now q) k b × ((1 ≤ count) × (1 ≤ k))) ⌝ }
     ensures { λ r. ⌜ r ≡ tiles (regionIn k (now (q .entry)) b) (regionsIn k count (now (p .entry)) at) ⌝ }
 {
     if !fit(p, k, at, count, q, b) {

@@ -92,7 +92,7 @@ tiled-requires c κs = let p = c .before .before .before .before .before .before
     let h = p .pre .0 in
     let g = h .pool in
     let i = p .pre .1 in
-    (record { wide = omega arith; near = omega arith; ends = omega arith }, (record { few = h .most; near = omega (arith, h .near); ends = h .region }, m .some))
+    (record { wide = omega arith; near = omega arith; ends = omega arith }, (record { few = h .most; near = omega (arith, h .near); ends = h .region }, (m .some, h .least)))
 
 returns-3 : tie.Need-returns-3
 returns-3 c = let p = c .before .before .before .before .before .before .before .before .before .pre in

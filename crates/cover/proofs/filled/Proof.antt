@@ -22,15 +22,15 @@ abbrev μ-loop : tie.MeasureT-loop
 volume-requires : tie.Need-volume-requires Inv-loop μ-loop
 volume-requires c κs = let x = c .before .before .args in
     let h = c .before .before .pre in
-    (h .1 .0, region-some (x .p .now) (x .k) (x .at) (x .count) (x .q .now) (x .b) (h .0) (h .1 .0) (h .1 .1 .0) (h .1 .1 .1))
+    (h .1 .0, (region-some (x .p .now) (x .k) (x .at) (x .count) (x .q .now) (x .b) (h .0) (h .1 .0) (h .1 .1 .0) (h .1 .1 .1 .1), h .1 .1 .1 .0))
 
 loop-holds : tie.Need-loop-holds Inv-loop μ-loop
 loop-holds c = let x = c .before .before .before .args in
     let h = c .before .before .before .pre in
-    left-all (x .p .now) (x .k) (x .at) (x .count) _ (x .b) (x .q .now) (h .0) (h .1 .1 .1) (c .volume .ensures)
+    left-all (x .p .now) (x .k) (x .at) (x .count) _ (x .b) (x .q .now) (h .0) (h .1 .1 .1 .1) (c .volume .ensures)
 
 volume-requires-2 : tie.Need-volume-requires-2 Inv-loop μ-loop
-volume-requires-2 c κs = (region-first _ _ _ _ _ (c .before .loop .inv .regions) (omega arith), left-some _ _ _ _ _ _ _ _ (c .before .loop .inv) (omega arith))
+volume-requires-2 c κs = (region-first _ _ _ _ _ (c .before .loop .inv .regions) (omega arith), (left-some _ _ _ _ _ _ _ _ (c .before .loop .inv) (omega arith), c .before .before .before .before .before .pre .1 .1 .1 .0))
 
 less-requires : tie.Need-less-requires Inv-loop μ-loop
 less-requires c κs = rw (c .volume2 .ensures) (left-most _ _ _ _ _ _ _ _ (c .before .before .loop .inv) (omega arith))
@@ -57,7 +57,7 @@ loop-again c = left-next _ _ _ _ _ _ _ _ (c .before .before .before .loop .inv) 
 
 returns : tie.Need-returns Inv-loop μ-loop
 returns c = let x = c .before .before .before .before .before .before .before .args in
-    filled-is (x .p .now) (x .k) (x .at) (x .count) (x .b) (x .q .now) _ (c .before .before .before .before .before .before .before .pre .1 .1 .1) (left-end _ _ _ _ _ _ _ _ (c .before .before .before .loop .inv) (omega arith))
+    filled-is (x .p .now) (x .k) (x .at) (x .count) (x .b) (x .q .now) _ (c .before .before .before .before .before .before .before .pre .1 .1 .1 .1) (left-end _ _ _ _ _ _ _ _ (c .before .before .before .loop .inv) (omega arith))
 
 pub filled-spec : {M : Type 1} → statement M
 filled-spec =

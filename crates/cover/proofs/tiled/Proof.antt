@@ -20,7 +20,7 @@ returns c = let h = c .before .before .before .before .pre in
 
 filled-requires : tie.Need-filled-requires
 filled-requires c κs = let h = c .before .before .before .before .pre in
-    (h .0, (h .1 .0, (h .1 .1, sym (c .before .fit .ensures) ∙ not-false _ (c .if1 .left))))
+    (h .0, (h .1 .0, (h .1 .1 .0, (h .1 .1 .1, sym (c .before .fit .ensures) ∙ not-false _ (c .if1 .left)))))
 
 returns-2 : tie.Need-returns-2
 returns-2 c = let h = c .before .before .before .before .before .pre in

@@ -1,7 +1,8 @@
 -- `cover::volume` meets its contract: the product of the sides, which for at most four does not pass two words.
 use Prim.Native.Nat.{_-_}
 use mathlib.Core.Path.{_≡_}
-use Rattle.cover.proofs.Loops.{Sides, sides-all, side-some, side-small, sides-next, sides-end}
+use Rattle.cover.specs.Volume.{Sides}
+use Rattle.cover.proofs.Loops.{side-some, side-small, sides-next, sides-end}
 use borrow.Author.Needs.{needs}
 use native.Mathlib.Omega.{arith}
 use Rattle.cover.proofs.volume.Statement.{statement}
@@ -11,6 +12,7 @@ use Rattle.cover.proofs.volume.Lts as lts
 use Rattle.cover.proofs.times.Reads as times-reads
 use Rattle.cover.proofs.high.Reads as high-reads
 use Rattle.cover.proofs.low.Reads as low-reads
+use Rattle.cover.proofs.plane.Reads as plane-reads
 
 abbrev Inv-loop : tie.InvT-loop
 Inv-loop p k a v₀ i₀ v i = Sides p k a v i
@@ -18,8 +20,11 @@ Inv-loop p k a v₀ i₀ v i = Sides p k a v i
 abbrev μ-loop : tie.MeasureT-loop
 μ-loop p k a v₀ i₀ v i = k - i
 
+plane-requires : tie.Need-plane-requires Inv-loop μ-loop
+plane-requires c κs = search needs
+
 loop-holds : tie.Need-loop-holds Inv-loop μ-loop
-loop-holds c = let x = c .before .args in sides-all (x .p .now) (x .k) (x .a) (c .before .pre .1)
+loop-holds c = c .plane .ensures
 
 low-requires : tie.Need-low-requires Inv-loop μ-loop
 low-requires c κs = search needs
@@ -28,11 +33,11 @@ high-requires : tie.Need-high-requires Inv-loop μ-loop
 high-requires c κs = search needs
 
 sub-times : tie.Need-sub-times Inv-loop μ-loop
-sub-times c = let x = c .before .before .before .before .before .args in
+sub-times c = let x = c .before .before .before .before .before .before .args in
     omega (arith, c .high .ensures .0, c .before .low .ensures .0, side-some (x .p .now) (x .k) (x .a) _ _ (c .before .before .before .loop .inv) (omega arith))
 
 times-requires : tie.Need-times-requires Inv-loop μ-loop
-times-requires c κs = let x = c .before .before .before .before .before .args in
+times-requires c κs = let x = c .before .before .before .before .before .before .args in
     (side-small (x .p .now) (x .k) (x .a) _ _ (c .before .before .before .loop .inv) (omega arith) (omega arith), omega (arith, c .high .ensures .1))
 
 add-i : tie.Need-add-i Inv-loop μ-loop
@@ -54,6 +59,7 @@ volume-spec =
     (tie.spec
     Inv-loop
     μ-loop
+    plane-requires
     loop-holds
     low-requires
     high-requires
