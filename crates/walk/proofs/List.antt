@@ -1,6 +1,6 @@
 -- List's walk as code makes it is the definition's: a state that goes through two tours in turn ends as after both joined, stopped at the bound.
 use mathlib.Core.Bool.{Bool, true, false, not, _&&_, cond}
-use mathlib.Core.List.{List, [], _∷_, _++_, map}
+use mathlib.Core.List.{List, [], _∷_, _++_, map, append-assoc, append-nil}
 use mathlib.Core.Path.{_≡_, refl, sym, ap, _∙_}
 use Prim.Native.Nat.{ℕ, zero, suc, _+_, _-_, _*_, _<_, _≤_}
 use native.Mathlib.Omega.{arith}
@@ -8,11 +8,11 @@ use native.Mathlib.Numerals.{add-one}
 use native.Mathlib.Nat.{add-zero, zero-add}
 use lib.Dec.{leb, ltb, eqb}
 use lib.ListN.{length, take, drop, getD, set, length-append, length-take, length-map}
-use lib.Seq.{sets}
+use lib.Seq.{sets, drop-cons, set-getD, take-suc-set, take-set-le}
 use borrow.Author.Tests.{lt-ltb, le-ltb, ltb-true, ltb-false, eq-eqb, ne-eqb}
-use Rattle.kdb.specs.Lists.{only}
+use Rattle.kdb.specs.Lists.{only, bit}
 use Rattle.kdb.specs.Box.{Box, inWindow, meets}
-use Rattle.kdb.specs.Pages.{readRecs, readEnts, recsIn, entsIn}
+use Rattle.kdb.specs.Pages.{Ent, readRecs, readEnts, recsIn, entsIn}
 use Rattle.kdb.specs.Pool.{levelsAt, rootAt, pagesIn, view, isPage}
 use Rattle.kdb.specs.Walk.{Spot, spots, Tour, still, astray, badAt, readAt, follow, through, goodPoints, goodRegions, tour, bounded, listWalk}
 use Rattle.kdb.specs.Calls.{L}
@@ -22,7 +22,7 @@ use Rattle.words.specs.Words.{wordAt, pointAt, pointLocation, keysOf, regionAt}
 use Rattle.words.proofs.Laws.{pages}
 use Rattle.walk.specs.declared.Tally.{Tally}
 use Rattle.walk.specs.Pages.{Fit, regionWords, pointWords, RegionPage, PointPage}
-use Rattle.walk.specs.List.{St, stopped, going, seen, Fair, arrived, locations, noted, held, foundIn, after, walked}
+use Rattle.walk.specs.List.{St, stopped, going, seen, Fair, arrived, locations, noted, held, foundIn, met, each, after, walked}
 use Rattle.walk.proofs.Pages.{slot-next, is-page, regions-good, points-good, region-page, point-page}
 
 locations-append : (a b : List Spot) → locations (a ++ b) ≡ locations a ++ locations b
@@ -109,6 +109,15 @@ goes-on n j good s t e h = go (s .bad) (leb 1 j && ltb j n) refl (ltb (s .reads 
     go false true p true true q z = record { is = p; takes = q; reads = ap (λ u. u .reads) z; total = ap (λ u. u .total) z }
     go false true p true false q z = wrong (ap (λ u. u .bad) z)
 
+-- a slot written as it was, or anew
+pub counted : (b : Bool) (t : ℕ) → t + bit b ≡ cond b (t + 1) t
+counted true t = refl
+counted false t = add-zero t
+
+pub written : (b : Bool) (out : List ℕ) (t v : ℕ) → set out t (cond b v (getD out t 0)) ≡ cond b (set out t v) out
+written true out t v = refl
+written false out t v = set-getD out t 0
+
 -- total and slots after a record
 module _ (w : List ℕ) (k : ℕ) (v : Box) (j c e t : ℕ) (out : List ℕ) (x : ℕ × List ℕ) where
   abbrev sees : Bool
@@ -141,6 +150,16 @@ stays n t out b h = rw h
 notes : (n : ℕ) (t : Tally) (out : List ℕ) (ss : List Spot) → t .bad ≡ false → Fair n t
     → after n (seen t out) (finds ss) ≡ going (t .reads) (noted (t .total) out ss .0) (noted (t .total) out ss .1)
 notes n t out ss h g = rw (h, add-zero (t .reads), lt-ltb _ _ (g .few))
+
+-- the walk over entries is the walk over the children of those that meet
+through-met : (below : ℕ → Tour) (v : Box) (es : List Ent) → through below v es ≡ each below (met v es)
+through-met below v [] = refl
+through-met below v (e ∷ es) = go (meets (e .box) v) (through-met below v es)
+  where
+    go : (b : Bool) → through below v es ≡ each below (met v es)
+        → follow (cond b (below (e .child)) still) (through below v es) ≡ each below (cond b (e .child ∷ met v es) (met v es))
+    go true i = ap (follow (below (e .child))) i
+    go false i = i
 
 -- the walk's levels
 module _ (w : List ℕ) (n k : ℕ) (f : Fit w n k) (v : Box) (j : ℕ) (s : Tally) (g : Fair n s) (out : List ℕ) where
@@ -194,21 +213,45 @@ module _ (w : List ℕ) (n k : ℕ) (f : Fit w n k) (v : Box) (j : ℕ) (s : Tal
       pub page-in : t .bad ≡ false → RegionPage w k j × (entsIn (view L w j) ≡ readEnts k (wordAt w j 1) (drop (L * j + 4) w))
       page-in h = let z = goes-on n j (regionWords w k j) s t e h in region-page w n k j f (z .is) (z .takes)
 
-      pub page-good : t .bad ≡ false
-          → after n (seen t out) (through below v (readEnts k (wordAt w j 1) (drop (L * j + 4) w))) ≡ after n (seen s out) (tour L w v (l - 1) j)
-      page-good h = ap (λ es. after n (seen t out) (through below v es)) (sym (page-in h .1)) ∙ sym page-from
+      pub page-good : t .bad ≡ false → (js : List ℕ) → js ≡ met v (readEnts k (wordAt w j 1) (drop (L * j + 4) w))
+          → after n (seen t out) (each below js) ≡ after n (seen s out) (tour L w v (l - 1) j)
+      page-good h js q =
+          ap (λ es. after n (seen t out) (each below es)) q
+          ∙ ap (after n (seen t out)) (sym (through-met below v (readEnts k (wordAt w j 1) (drop (L * j + 4) w))))
+          ∙ ap (λ es. after n (seen t out) (through below v es)) (sym (page-in h .1))
+          ∙ sym page-from
 
--- the entries from word a on
-module _ (n k c e : ℕ) (w : List ℕ) (below : ℕ → Tour) (v : Box) (a : ℕ) (u : Tally) (out : List ℕ) (x : St) where
-  pub entries-end : after n (seen u out) (through below v (readEnts k (c - e) (drop a w))) ≡ x → c ≤ e → Fair n u → seen u out ≡ x
-  entries-end q h g = let z : c - e ≡ 0 = omega arith in sym (after-still n u out g) ∙ (rw z at q)
+-- the children of the entries from word a on, behind those that are there
+module _ (k c e : ℕ) (w : List ℕ) (v : Box) (a m : ℕ) (ch x : List ℕ) where
+  pub met-end : take m ch ++ met v (readEnts k (c - e) (drop a w)) ≡ x → c ≤ e → take m ch ≡ x
+  met-end q h = let z : c - e ≡ 0 = omega arith in sym (append-nil (take m ch)) ∙ (rw z at q)
 
-  pub entries-next : after n (seen u out) (through below v (readEnts k (c - e) (drop a w))) ≡ x → e < c → (u′ : Tally) (out′ : List ℕ)
-      → seen u′ out′ ≡ after n (seen u out) (cond (meets (regionAt k w a) v) (below (getD w (a + 2 * k) 0)) still)
-      → after n (seen u′ out′) (through below v (readEnts k (c - (e + 1)) (drop (a + (2 * k + 1)) w))) ≡ x
-  entries-next q h u′ out′ t =
-      let es = readEnts k (c - (e + 1)) (drop (a + (2 * k + 1)) w) in
-      rw t (sym (after-follow n (seen u out) (cond (meets (regionAt k w a) v) (below (getD w (a + 2 * k) 0)) still) (through below v es)) ∙ (rw (ent-turn k c e w a h) at q))
+  abbrev entry : ℕ
+  entry = getD w (a + 2 * k) 0
+
+  abbrev others : List ℕ
+  others = met v (readEnts k (c - (e + 1)) (drop (a + (2 * k + 1)) w))
+
+  pub met-next : take m ch ++ met v (readEnts k (c - e) (drop a w)) ≡ x → e < c → m < length ch
+      → take (m + bit (meets (regionAt k w a) v)) (set ch m entry) ++ others ≡ x
+  met-next q h l = go (meets (regionAt k w a) v) ∙ (rw (ent-turn k c e w a h) at q)
+    where
+      go : (b : Bool) → take (m + bit b) (set ch m entry) ++ others ≡ take m ch ++ cond b (entry ∷ others) others
+      go true = rw (add-one m, take-suc-set ch m entry l) (append-assoc (take m ch) (entry ∷ []) others)
+      go false = rw (add-zero m, take-set-le m ch m entry (omega arith))
+
+-- the first m of these pages, from the one after i others on
+module _ (n m i : ℕ) (below : ℕ → Tour) (ch : List ℕ) (u : Tally) (out : List ℕ) (x : St) where
+  pub each-end : after n (seen u out) (each below (take (m - i) (drop i ch))) ≡ x → m ≤ i → Fair n u → seen u out ≡ x
+  each-end q h g = let z : m - i ≡ 0 = omega arith in sym (after-still n u out g) ∙ (rw z at q)
+
+  pub each-next : after n (seen u out) (each below (take (m - i) (drop i ch))) ≡ x → i < m → i < length ch → (u′ : Tally) (out′ : List ℕ)
+      → seen u′ out′ ≡ after n (seen u out) (below (getD ch i 0))
+      → after n (seen u′ out′) (each below (take (m - (i + 1)) (drop (i + 1) ch))) ≡ x
+  each-next q h l u′ out′ t =
+      let z : m - i ≡ suc (m - (i + 1)) = omega arith in
+      let y : take (m - i) (drop i ch) ≡ getD ch i 0 ∷ take (m - (i + 1)) (drop (i + 1) ch) = rw (z, drop-cons ch i 0 l, add-one i) in
+      rw t (sym (after-follow n (seen u out) (below (getD ch i 0)) (each below (take (m - (i + 1)) (drop (i + 1) ch)))) ∙ (rw y at q))
 
 -- the whole walk
 pub bound : (w : List ℕ) (N : ℕ) (t : Tour) (out : List ℕ) → 1 ≤ N → after N (going 0 0 out) t ≡ walked out (bounded L w N t)

@@ -67,6 +67,9 @@ slot-first k j = omega (arith, zero-mul (k + 1))
 pub count-few : (w : List ℕ) (k j : ℕ) → PointPage w k j → wordAt w j 1 ≤ 28
 count-few w k j g = let s : wordAt w j 1 * 1 ≤ wordAt w j 1 * (k + 1) = mul-le-mul-left (wordAt w j 1) (omega arith) in omega (arith, g .room)
 
+pub entries-few : (w : List ℕ) (k j : ℕ) → 1 ≤ k → RegionPage w k j → wordAt w j 1 ≤ 9
+entries-few w k j h g = let s : wordAt w j 1 * 3 ≤ wordAt w j 1 * (2 * k + 1) = mul-le-mul-left (wordAt w j 1) (omega arith) in omega (arith, g .room)
+
 -- a pool with a good header is fit for a walk
 pub fit : (w : List ℕ) (n k : ℕ) → Paged w n → goodHeader L w ≡ true → k ≡ domains w → Fit w n k
 unfolding goodHeader

@@ -6,9 +6,9 @@ use lib.Dec.{leb, ltb}
 use lib.ListN.{length, drop, set}
 use lib.Seq.{sets}
 use Rattle.kdb.specs.Lists.{only}
-use Rattle.kdb.specs.Box.{Box, inWindow}
-use Rattle.kdb.specs.Pages.{readRecs}
-use Rattle.kdb.specs.Walk.{Spot, spots, Tour}
+use Rattle.kdb.specs.Box.{Box, inWindow, meets}
+use Rattle.kdb.specs.Pages.{Ent, readRecs}
+use Rattle.kdb.specs.Walk.{Spot, spots, Tour, still, follow}
 use Rattle.kdb.specs.Calls.{L}
 use Rattle.words.specs.Words.{wordAt}
 use Rattle.walk.specs.declared.Tally.{Tally}
@@ -53,6 +53,16 @@ after N (stopped r) t = stopped r
 after N (going r m out) t =
     let reads = r + length (t .read) in
     cond (ltb reads N) (cond (t .bad) (stopped reads) (going reads (m + length (t .found)) (sets out m (locations (t .found))))) (stopped (N - 1))
+
+-- the children of the entries whose regions meet the window, in page order
+abbrev pub met : Box → List Ent → List ℕ
+met v [] = []
+met v (e ∷ es) = cond (meets (e .box) v) (e .child ∷ met v es) (met v es)
+
+-- the tours of these pages in turn
+abbrev pub each : (ℕ → Tour) → List ℕ → Tour
+each below [] = still
+each below (j ∷ js) = follow (below j) (each below js)
 
 -- what a whole walk says of total, reads and the answer's slots
 abbrev pub walked : List ℕ → Tour → St

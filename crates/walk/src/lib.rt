@@ -3,26 +3,27 @@ use boxes::in_window;
 use boxes::meets_window;
 use boxes::point_in;
 use boxes::same_keys;
-use words::child;
 use words::get;
-use words::point_location;
+use words::point_at;
 use words::points_per;
 use words::put;
+use words::read;
 use words::regions_per;
 use words::word;
 ghost use mathlib.Core.Path.{_≡_};
 ghost use mathlib.Core.Bool.{Bool, true, false, _&&_, cond};
 ghost use Prim.Native.Nat.{ℕ, _+_, _*_, _-_, _≤_, _<_, _^_};
 ghost use lib.Dec.{leb, ltb};
-ghost use lib.ListN.{length, drop, getD, set};
-ghost use Rattle.kdb.specs.Box.{inWindow, meets};
+ghost use lib.ListN.{length, take, drop, set};
+ghost use Rattle.kdb.specs.Lists.{bit};
+ghost use Rattle.kdb.specs.Box.{inWindow};
 ghost use Rattle.kdb.specs.Pages.{readRecs, readEnts};
-ghost use Rattle.kdb.specs.Walk.{still, spots, spotOf, seek, findWalk, tour, listWalk};
+ghost use Rattle.kdb.specs.Walk.{spots, spotOf, seek, findWalk, tour, listWalk};
 ghost use Rattle.kdb.specs.Calls.{L, windowOf};
-ghost use Rattle.words.specs.Words.{wordAt, keysOf, pointLocation, regionAt, RegionIn, RecordIn};
+ghost use Rattle.words.specs.Words.{wordAt, keysOf, pointLocation, RecordIn};
 ghost use Rattle.walk.specs.Pages.{Fit, regionWords, pointWords, RegionPage, PointPage};
 ghost use Rattle.walk.specs.Seek.{childOf, ended, told};
-ghost use Rattle.walk.specs.List.{Fair, arrived, foundIn, seen, after, walked};
+ghost use Rattle.walk.specs.List.{Fair, arrived, foundIn, met, each, seen, after, walked};
 
 // How a search ended: at the record (page, slot, location, pages read), in the point page that lacks the point (page, pages read), at
 // a bad page (pages read), or before it began, for want of a root.
@@ -68,12 +69,12 @@ fn child_for(pool: &[u32], k: usize, point: &[u32], j: usize) -> usize
     requires { ⌜ RegionPage (now pool) k j × (length (now point) ≡ k) ⌝ }
     ensures { λ r. ⌜ (r ≡ childOf (now (point .entry)) (readEnts k (wordAt (now (pool .entry)) j 1) (drop (L * j + 4) (now (pool .entry))))) × (r < 2 ^ 32) ⌝ }
 {
-    let count = word(pool, j, 1);
+    let count = read(pool, 32 * j + 1);
     let mut at = 32 * j + 4;
     let mut e: usize = 0;
     while e < count {
         if point_in(pool, k, at, point) {
-            return child(pool, k, at);
+            return read(pool, at + 2 * k);
         }
         at += 2 * k + 1;
         e += 1;
@@ -86,11 +87,11 @@ fn record_for(pool: &[u32], k: usize, point: &[u32], j: usize, reads: usize) -> 
     requires { ⌜ PointPage (now pool) k j × (length (now point) ≡ k) ⌝ }
     ensures { λ r. ⌜ r ≡ ended reads (spotOf j (now (point .entry)) (spots j 0 (readRecs k (wordAt (now (pool .entry)) j 1) (drop (L * j + 4) (now (pool .entry)))))) ⌝ }
 {
-    let count = word(pool, j, 1);
+    let count = read(pool, 32 * j + 1);
     let mut e: usize = 0;
     while e < count {
         if same_keys(pool, k, j, e, point) {
-            return Sought::Here(j, e, point_location(pool, k, j, e), reads);
+            return Sought::Here(j, e, read(pool, point_at(k, j, e) + k), reads);
         }
         e += 1;
     }
@@ -133,6 +134,19 @@ fn descend(pool: &[u32], n: usize, k: usize, point: &[u32], root: usize, levels:
     at_points(pool, n, k, point, j, reads)
 }
 
+// k itself, of which the compiler then knows that it is 1 to 4.
+fn domains(k: usize) -> usize
+    requires { ⌜ (1 ≤ k) × (k ≤ 4) ⌝ }
+    ensures { λ r. ⌜ r ≡ k ⌝ }
+{
+    match k {
+        1 => 1,
+        2 => 2,
+        3 => 3,
+        _ => 4,
+    }
+}
+
 // The search for a point in a pool of n pages with a good header.
 pub fn search(pool: &[u32], n: usize, k: usize, point: &[u32]) -> Sought
     requires { ⌜ Fit (now pool) n k × (length (now point) ≡ k) ⌝ }
@@ -142,7 +156,7 @@ pub fn search(pool: &[u32], n: usize, k: usize, point: &[u32]) -> Sought
     if levels == 0 {
         return Sought::NoRoot;
     }
-    descend(pool, n, k, point, get(pool, 2), levels)
+    descend(pool, n, domains(k), point, get(pool, 2), levels)
 }
 
 // Page j is read, if it is a page and the bound allows one more; the walk goes on if it is good.
@@ -167,7 +181,22 @@ fn arrive(n: usize, j: usize, good: bool, s: Tally) -> Tally
     }
 }
 
-// One record: the total after it, with its location in its slot of the answer.
+// 1 where it holds, else 0.
+fn one(holds: bool) -> usize
+    ensures { λ r. ⌜ r ≡ bit holds ⌝ }
+{
+    if holds { 1 } else { 0 }
+}
+
+// The one where it holds, else the other.
+fn either(holds: bool, one: usize, other: usize) -> usize
+    ensures { λ r. ⌜ r ≡ cond holds one other ⌝ }
+{
+    if holds { one } else { other }
+}
+
+// One record: the total after it, with its location in its slot of the answer. A slot is written in either case, as it was or anew: the
+// records decide no branch.
 fn visit(
     pool: &[u32],
     k: usize,
@@ -181,12 +210,11 @@ fn visit(
     ensures { λ r. ⌜ (r ≡ cond (inWindow (windowOf k (now (window .entry))) (keysOf k (now (pool .entry)) j slot)) (total + 1) total)
         × ((now (answer .exit) ≡ cond (inWindow (windowOf k (now (window .entry))) (keysOf k (now (pool .entry)) j slot)) (set (now (answer .entry)) total (pointLocation (now (pool .entry)) k j slot)) (now (answer .entry))) × (r ≤ total + 1)) ⌝ }
 {
-    if in_window(pool, k, j, slot, window) {
-        put(answer, total, point_location(pool, k, j, slot));
-        total + 1
-    } else {
-        total
-    }
+    let held = in_window(pool, k, j, slot, window);
+    let location = read(pool, point_at(k, j, slot) + k);
+    let old = get(answer, total);
+    put(answer, total, either(held, location, old));
+    total + one(held)
 }
 
 // The records of point page j that the window holds.
@@ -201,7 +229,7 @@ fn list_points(
     requires { ⌜ PointPage (now pool) k j × ((length (now window) ≡ 2 * k) × (total < 2 ^ 32)) ⌝ }
     ensures { λ r. ⌜ ((r, now (answer .exit)) ≡ foundIn (now (pool .entry)) k (windowOf k (now (window .entry))) j total (now (answer .entry))) × (r ≤ total + 28) ⌝ }
 {
-    let count = word(pool, j, 1);
+    let count = read(pool, 32 * j + 1);
     let mut t = total;
     let mut e: usize = 0;
     while e < count {
@@ -242,7 +270,49 @@ fn list_leaf(
     }
 }
 
-// A page, and before the next page the pages below it that meet the window.
+// The children of region page j whose regions meet the window, in page order, to the front of `child`: how many. Every entry's child is
+// written, and the next one over it if it does not meet: the regions decide no branch.
+fn meeting(pool: &[u32], k: usize, window: &[u32], j: usize, child: &mut [u32]) -> usize
+    requires { ⌜ (1 ≤ k) × (RegionPage (now pool) k j × ((length (now window) ≡ 2 * k) × (9 ≤ length (now child)))) ⌝ }
+    ensures { λ r. ⌜ (take r (now (child .exit)) ≡ met (windowOf k (now (window .entry))) (readEnts k (wordAt (now (pool .entry)) j 1) (drop (L * j + 4) (now (pool .entry))))) × (r ≤ 9) ⌝ }
+{
+    let count = read(pool, 32 * j + 1);
+    let mut m: usize = 0;
+    let mut at = 32 * j + 4;
+    let mut e: usize = 0;
+    while e < count {
+        child[m] = pool[at + 2 * k];
+        m += one(meets_window(pool, k, at, window));
+        at += 2 * k + 1;
+        e += 1;
+    }
+    m
+}
+
+// The first m of these pages, all of the last level.
+fn list_leaves(
+    pool: &[u32],
+    n: usize,
+    k: usize,
+    window: &[u32],
+    answer: &mut [u32],
+    child: &[u32],
+    m: usize,
+    s: Tally,
+) -> Tally
+    requires { ⌜ Fit (now pool) n k × ((length (now window) ≡ 2 * k) × ((m ≤ length (now child)) × Fair n s)) ⌝ }
+    ensures { λ r. ⌜ (seen r (now (answer .exit)) ≡ after n (seen s (now (answer .entry))) (each (tour L (now (pool .entry)) (windowOf k (now (window .entry))) 0) (take m (now (child .entry))))) × Fair n r ⌝ }
+{
+    let mut t = s;
+    let mut i: usize = 0;
+    while i < m {
+        t = list_leaf(pool, n, k, window, answer, read(child, i), t);
+        i += 1;
+    }
+    t
+}
+
+// A region page, and before the next page the pages below it that meet the window.
 fn list_page(
     pool: &[u32],
     n: usize,
@@ -253,46 +323,24 @@ fn list_page(
     j: usize,
     s: Tally,
 ) -> Tally
-    requires { ⌜ Fit (now pool) n k × ((length (now window) ≡ 2 * k) × ((j < 2 ^ 32) × Fair n s)) ⌝ }
+    requires { ⌜ Fit (now pool) n k × ((length (now window) ≡ 2 * k) × ((1 < level) × ((j < 2 ^ 32) × Fair n s))) ⌝ }
     ensures { λ r. ⌜ (seen r (now (answer .exit)) ≡ after n (seen s (now (answer .entry))) (tour L (now (pool .entry)) (windowOf k (now (window .entry))) (level - 1) j)) × Fair n r ⌝ }
 {
-    if level <= 1 {
-        return list_leaf(pool, n, k, window, answer, j, s);
-    }
     let mut t = arrive(n, j, region_page(pool, k, j), s);
     if t.bad {
         return t;
     }
-    let count = word(pool, j, 1);
-    let mut at = 32 * j + 4;
-    let mut e: usize = 0;
-    while e < count {
-        t = enter(pool, n, k, window, answer, level - 1, at, t);
-        at += 2 * k + 1;
-        e += 1;
+    let mut child = [0u32; 9];
+    let m = meeting(pool, k, window, j, &mut child);
+    if level <= 2 {
+        return list_leaves(pool, n, k, window, answer, &child, m, t);
+    }
+    let mut i: usize = 0;
+    while i < m {
+        t = list_page(pool, n, k, window, answer, level - 1, read(&child, i), t);
+        i += 1;
     }
     t
-}
-
-// One entry of a region page: its child, where its region meets the window.
-fn enter(
-    pool: &[u32],
-    n: usize,
-    k: usize,
-    window: &[u32],
-    answer: &mut [u32],
-    level: usize,
-    at: usize,
-    s: Tally,
-) -> Tally
-    requires { ⌜ Fit (now pool) n k × ((length (now window) ≡ 2 * k) × (RegionIn (now pool) k at × Fair n s)) ⌝ }
-    ensures { λ r. ⌜ (seen r (now (answer .exit)) ≡ after n (seen s (now (answer .entry))) (cond (meets (regionAt k (now (pool .entry)) at) (windowOf k (now (window .entry)))) (tour L (now (pool .entry)) (windowOf k (now (window .entry))) (level - 1) (getD (now (pool .entry)) (at + 2 * k) 0)) still)) × Fair n r ⌝ }
-{
-    if meets_window(pool, k, at, window) {
-        list_page(pool, n, k, window, answer, level, child(pool, k, at), s)
-    } else {
-        s
-    }
 }
 
 // List's walk of a window in a pool of n pages with a good header, its reads limited by n - 1.
@@ -309,5 +357,10 @@ pub fn list_walk(pool: &[u32], n: usize, k: usize, window: &[u32], answer: &mut 
     if levels == 0 {
         return s;
     }
-    list_page(pool, n, k, window, answer, levels, get(pool, 2), s)
+    let root = get(pool, 2);
+    let d = domains(k);
+    if levels <= 1 {
+        return list_leaf(pool, n, d, window, answer, root, s);
+    }
+    list_page(pool, n, d, window, answer, levels, root, s)
 }

@@ -21,8 +21,14 @@ Inv-loop pool k point j count at₀ e₀ at e = (e ≤ count) × (count ≡ word
 abbrev μ-loop : tie.MeasureT-loop
 μ-loop pool k point j count at₀ e₀ at e = count - e
 
-word-requires : tie.Need-word-requires Inv-loop μ-loop
-word-requires c κs = search needs
+mul-read : tie.Need-mul-read Inv-loop μ-loop
+mul-read c = search needs
+
+add-read : tie.Need-add-read Inv-loop μ-loop
+add-read c = search needs
+
+read-requires : tie.Need-read-requires Inv-loop μ-loop
+read-requires c κs = omega (arith, c .before .before .pre .0 .ends)
 
 mul-at : tie.Need-mul-at Inv-loop μ-loop
 mul-at c = search needs
@@ -31,19 +37,27 @@ add-at : tie.Need-add-at Inv-loop μ-loop
 add-at c = search needs
 
 loop-holds : tie.Need-loop-holds Inv-loop μ-loop
-loop-holds c = let a = c .before .before .before .args in (omega arith, c .word .ensures .0, rw (sub-zero (c .word .result), c .word .ensures .0) (omega (arith, c .before .before .before .pre .0 .room)), rw (sub-zero (c .word .result), c .word .ensures .0))
+loop-holds c = let a = c .before .before .before .args in (omega arith, c .read .ensures .0, rw (sub-zero (c .read .result), c .read .ensures .0) (omega (arith, c .before .before .before .pre .0 .room)), rw (sub-zero (c .read .result), c .read .ensures .0))
 
 point-in-requires : tie.Need-point-in-requires Inv-loop μ-loop
 point-in-requires c κs = let a = c .before .before .before .before .before .args in
-    let r = room-next (c .before .before .word .result) (c .before .loop .e) (2 * a .k + 1) (c .loop-test .taken) in
+    let r = room-next (c .before .before .read .result) (c .before .loop .e) (2 * a .k + 1) (c .loop-test .taken) in
     (record { few = c .before .before .before .before .before .pre .0 .few; near = omega (arith, c .before .before .before .before .before .pre .0 .number, c .before .loop .inv .2); ends = omega (arith, c .before .before .before .before .before .pre .0 .ends, c .before .loop .inv .2) }, c .before .before .before .before .before .pre .1)
 
-child-requires : tie.Need-child-requires Inv-loop μ-loop
-child-requires c κs = (c .before .before .before .before .before .before .before .pre .0 .few, omega (arith, c .before .before .before .before .before .before .before .pre .0 .number, c .before .before .before .loop .inv .2))
+mul-read-2 : tie.Need-mul-read-2 Inv-loop μ-loop
+mul-read-2 c = omega (arith, c .before .before .before .before .before .before .before .pre .0 .few)
+
+add-read-2 : tie.Need-add-read-2 Inv-loop μ-loop
+add-read-2 c = omega (arith, c .before .before .before .before .before .before .before .pre .0 .few, c .before .before .before .before .before .before .before .pre .0 .number, c .before .before .before .loop .inv .2)
+
+read-requires-2 : tie.Need-read-requires-2 Inv-loop μ-loop
+read-requires-2 c κs = let a = c .before .before .before .before .before .before .before .args in
+    let r = room-next (c .before .before .before .before .read .result) (c .before .before .before .loop .e) (2 * a .k + 1) (c .before .before .loop-test .taken) in
+    omega (arith, c .before .before .before .before .before .before .before .pre .0 .ends, c .before .before .before .loop .inv .2)
 
 returns : tie.Need-returns Inv-loop μ-loop
 returns c = let a = c .before .before .before .before .before .before .before .before .args in
-    (c .child .ensures .0 ∙ child-here (a .k) _ _ (a .pool .now) (a .point .now) (c .before .before .before .before .loop .at) _ (c .before .before .before .before .loop .inv .3) (c .before .before .before .loop-test .taken) (sym (c .before .before .point-in .ensures) ∙ c .before .if1 .taken), c .child .ensures .1)
+    (c .read2 .ensures .0 ∙ child-here (a .k) _ _ (a .pool .now) (a .point .now) (c .before .before .before .before .loop .at) _ (c .before .before .before .before .loop .inv .3) (c .before .before .before .loop-test .taken) (sym (c .before .before .point-in .ensures) ∙ c .before .if1 .taken), c .read2 .ensures .1)
 
 mul-at-2 : tie.Need-mul-at-2 Inv-loop μ-loop
 mul-at-2 c = omega (arith, c .before .before .before .before .before .before .before .pre .0 .few)
@@ -62,7 +76,7 @@ loop-less c = search needs
 
 loop-again : tie.Need-loop-again Inv-loop μ-loop
 loop-again c = let a = c .before .before .before .before .before .before .before .args in
-    let r = room-next (c .before .before .before .before .word .result) (c .before .before .before .loop .e) (2 * a .k + 1) (c .before .before .loop-test .taken) in
+    let r = room-next (c .before .before .before .before .read .result) (c .before .before .before .loop .e) (2 * a .k + 1) (c .before .before .loop-test .taken) in
     (omega arith, c .before .before .before .loop .inv .1, omega (arith, c .before .before .before .loop .inv .2), child-next _ _ _ _ _ _ _ (c .before .before .before .loop .inv .3) (c .before .before .loop-test .taken) (sym (c .before .point-in .ensures) ∙ c .if1 .left))
 
 returns-2 : tie.Need-returns-2 Inv-loop μ-loop
@@ -75,12 +89,16 @@ child-for-spec =
     (tie.spec
     Inv-loop
     μ-loop
-    word-requires
+    mul-read
+    add-read
+    read-requires
     mul-at
     add-at
     loop-holds
     point-in-requires
-    child-requires
+    mul-read-2
+    add-read-2
+    read-requires-2
     returns
     mul-at-2
     add-at-2

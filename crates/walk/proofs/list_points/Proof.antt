@@ -20,16 +20,23 @@ Inv-loop pool k window answer₀ j total count t₀ e₀ answer t e = (e ≤ cou
 abbrev μ-loop : tie.MeasureT-loop
 μ-loop pool k window answer₀ j total count t₀ e₀ answer t e = count - e
 
-word-requires : tie.Need-word-requires Inv-loop μ-loop
-word-requires c κs = search needs
+mul-read : tie.Need-mul-read Inv-loop μ-loop
+mul-read c = search needs
+
+add-read : tie.Need-add-read Inv-loop μ-loop
+add-read c = search needs
+
+read-requires : tie.Need-read-requires Inv-loop μ-loop
+read-requires c κs = omega (arith, c .before .before .before .pre .0 .ends)
 
 loop-holds : tie.Need-loop-holds Inv-loop μ-loop
 loop-holds c = let a = c .before .before .before .before .args in
-    (omega arith, c .word .ensures .0, omega arith, refl, rw (sub-zero (c .word .result), c .word .ensures .0, slot-first (a .k) (a .j)))
+    (omega arith, c .read .ensures .0, omega arith, refl, rw (sub-zero (c .read .result), c .read .ensures .0, slot-first (a .k) (a .j)))
 
 visit-requires : tie.Need-visit-requires Inv-loop μ-loop
 visit-requires c κs = let a = c .before .before .before .before .before .before .before .args in
-    (slot-in (a .pool .now) (a .k) (a .j) (c .before .before .loop .e) (c .before .before .before .before .before .before .before .pre .0) (rw (c .before .before .loop .inv .1) at (c .before .loop-test .taken)), (c .before .before .before .before .before .before .before .pre .1 .0, omega (arith, c .before .before .before .before .before .before .before .pre .1 .1, c .before .before .loop .inv, count-few (a .pool .now) (a .k) (a .j) (c .before .before .before .before .before .before .before .pre .0))))
+    let p = c .before .before .before .before .before .before .before .pre in
+    (slot-in (a .pool .now) (a .k) (a .j) (c .before .before .loop .e) (p .0) (rw (c .before .before .loop .inv .1) at (c .before .loop-test .taken)), (p .1 .0, omega (arith, p .1 .1, c .before .before .loop .inv, count-few (a .pool .now) (a .k) (a .j) (p .0))))
 
 add-e : tie.Need-add-e Inv-loop μ-loop
 add-e c = search needs
@@ -60,7 +67,9 @@ list-points-spec =
     (tie.spec
     Inv-loop
     μ-loop
-    word-requires
+    mul-read
+    add-read
+    read-requires
     loop-holds
     visit-requires
     add-e

@@ -22,23 +22,37 @@ Inv-loop pool k point j reads count e₀ e = (e ≤ count) × (count ≡ wordAt 
 abbrev μ-loop : tie.MeasureT-loop
 μ-loop pool k point j reads count e₀ e = count - e
 
-word-requires : tie.Need-word-requires Inv-loop μ-loop
-word-requires c κs = search needs
+mul-read : tie.Need-mul-read Inv-loop μ-loop
+mul-read c = search needs
+
+add-read : tie.Need-add-read Inv-loop μ-loop
+add-read c = search needs
+
+read-requires : tie.Need-read-requires Inv-loop μ-loop
+read-requires c κs = omega (arith, c .before .before .pre .0 .ends)
 
 loop-holds : tie.Need-loop-holds Inv-loop μ-loop
 loop-holds c = let a = c .before .before .before .args in
-    (omega arith, c .word .ensures .0, rw (sub-zero (c .word .result), c .word .ensures .0, slot-first (a .k) (a .j)))
+    (omega arith, c .read .ensures .0, rw (sub-zero (c .read .result), c .read .ensures .0, slot-first (a .k) (a .j)))
 
 same-keys-requires : tie.Need-same-keys-requires Inv-loop μ-loop
 same-keys-requires c κs = let a = c .before .before .before .before .before .args in (slot-in (a .pool .now) (a .k) (a .j) (c .before .loop .e) (c .before .before .before .before .before .pre .0) (rw (c .before .loop .inv .1) at (c .loop-test .taken)), c .before .before .before .before .before .pre .1)
 
-point-location-requires : tie.Need-point-location-requires Inv-loop μ-loop
-point-location-requires c κs = let a = c .before .before .before .before .before .before .before .args in
+point-at-requires : tie.Need-point-at-requires Inv-loop μ-loop
+point-at-requires c κs = let a = c .before .before .before .before .before .before .before .args in
     let g = slot-in (a .pool .now) (a .k) (a .j) (c .before .before .before .loop .e) (c .before .before .before .before .before .before .before .pre .0) (rw (c .before .before .before .loop .inv .1) at (c .before .before .loop-test .taken)) in
     (g .few, (g .page, g .slot))
 
+add-read-2 : tie.Need-add-read-2 Inv-loop μ-loop
+add-read-2 c = omega (arith, c .point-at .ensures .1, c .before .before .before .before .before .before .before .before .pre .0 .few)
+
+read-requires-2 : tie.Need-read-requires-2 Inv-loop μ-loop
+read-requires-2 c κs = let a = c .before .before .before .before .before .before .before .before .args in
+    let g = slot-in (a .pool .now) (a .k) (a .j) (c .before .before .before .before .loop .e) (c .before .before .before .before .before .before .before .before .pre .0) (rw (c .before .before .before .before .loop .inv .1) at (c .before .before .before .loop-test .taken)) in
+    rw (c .point-at .ensures .0) (g .ends)
+
 returns : tie.Need-returns Inv-loop μ-loop
-returns c = rw (c .point-location .ensures .0) (record-here _ _ _ _ _ _ _ _ (c .before .before .before .before .loop .inv .2) (c .before .before .before .loop-test .taken) (sym (c .before .before .same-keys .ensures) ∙ c .before .if1 .taken))
+returns c = rw (c .read2 .ensures .0, c .before .point-at .ensures .0) (record-here _ _ _ _ _ _ _ _ (c .before .before .before .before .before .loop .inv .2) (c .before .before .before .before .loop-test .taken) (sym (c .before .before .before .same-keys .ensures) ∙ c .before .before .if1 .taken))
 
 add-e : tie.Need-add-e Inv-loop μ-loop
 add-e c = search needs
@@ -58,10 +72,14 @@ record-for-spec =
     (tie.spec
     Inv-loop
     μ-loop
-    word-requires
+    mul-read
+    add-read
+    read-requires
     loop-holds
     same-keys-requires
-    point-location-requires
+    point-at-requires
+    add-read-2
+    read-requires-2
     returns
     add-e
     loop-less

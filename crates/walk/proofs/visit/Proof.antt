@@ -1,5 +1,11 @@
--- `walk::visit` meets its contract: a record that the window holds takes the next slot.
-use mathlib.Core.Path.{sym, _∙_}
+-- `walk::visit` meets its contract: a record that the window holds takes the next slot, and any other leaves it as it was.
+use Rattle.walk.proofs.List.{counted, written}
+use Rattle.words.specs.Words.{keysOf, pointLocation}
+use Rattle.kdb.specs.Box.{inWindow}
+use Rattle.kdb.specs.Calls.{windowOf}
+use Rattle.kdb.proofs.Lists.{bit-most, cond-case}
+use mathlib.Core.Path.{_∙_}
+use Prim.Native.Nat.{ℕ, _<_, _^_}
 use borrow.Author.Needs.{needs}
 use native.Mathlib.Omega.{arith}
 use Rattle.walk.proofs.visit.Statement.{statement}
@@ -8,32 +14,57 @@ use Rattle.walk.proofs.visit.Tie as tie
 in-window-requires : tie.Need-in-window-requires
 in-window-requires c κs = search needs
 
-point-location-requires : tie.Need-point-location-requires
-point-location-requires c κs = search needs
+point-at-requires : tie.Need-point-at-requires
+point-at-requires c κs = search needs
+
+add-read : tie.Need-add-read
+add-read c = search needs
+
+read-requires : tie.Need-read-requires
+read-requires c κs = search needs
+
+get-requires : tie.Need-get-requires
+get-requires c κs = search needs
+
+either-requires : tie.Need-either-requires
+either-requires c κs = search needs
 
 put-requires : tie.Need-put-requires
-put-requires c κs = search needs
+put-requires c κs = rw (c .either .ensures) (cond-case (λ (x : ℕ). x < 2 ^ 32) (c .before .before .before .before .before .before .in-window .result) _ _ (c .before .before .before .before .read .ensures .1) (c .before .before .get .ensures .1))
+
+one-requires : tie.Need-one-requires
+one-requires c κs = search needs
 
 add-result : tie.Need-add-result
-add-result c = search needs
+add-result c = omega (arith, c .one .ensures, bit-most (c .before .before .before .before .before .before .before .before .before .before .in-window .result))
 
 same-length : tie.Need-same-length
-same-length c = c .before .before .put .kept .0
+same-length c = c .before .before .before .put .kept .0
 
 returns : tie.Need-returns
-returns c = let h = sym (c .before .before .before .before .before .before .in-window .ensures) ∙ c .before .before .before .before .before .if1 .taken in (rw h, (rw (h, ← c .before .before .before .point-location .ensures .0) (c .before .before .put .ensures), omega arith))
-
-returns-2 : tie.Need-returns-2
-returns-2 c = let h = sym (c .before .in-window .ensures) ∙ c .if1 .left in (rw h, (rw h, omega arith))
+returns c = let a = c .before .before .before .before .before .before .before .before .before .before .before .before .before .before .args in
+    let h = c .before .before .before .before .before .before .before .before .before .before .in-window .ensures in
+    let sees = inWindow (windowOf (a .k) (a .window .now)) (keysOf (a .k) (a .pool .now) (a .j) (a .slot)) in (
+      rw (c .one .ensures, h) (counted sees (a .total)),
+      (
+        c .before .before .before .put .ensures
+            ∙ (rw (c .before .before .before .before .either .ensures, c .before .before .before .before .before .before .get .ensures .0, c .before .before .before .before .before .before .before .before .read .ensures .0, c .before .before .before .before .before .before .before .before .before .point-at .ensures .0, h) (written sees (a .answer .now) (a .total) (pointLocation (a .pool .now) (a .k) (a .j) (a .slot)))),
+        omega (arith, c .one .ensures, bit-most (c .before .before .before .before .before .before .before .before .before .before .in-window .result)),
+      ),
+    )
 
 pub visit-spec : {M : Type 1} → statement M
 visit-spec =
     tie.close
     (tie.spec
     in-window-requires
-    point-location-requires
+    point-at-requires
+    add-read
+    read-requires
+    get-requires
+    either-requires
     put-requires
+    one-requires
     add-result
     same-length
-    returns
-    returns-2)
+    returns)

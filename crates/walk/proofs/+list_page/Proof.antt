@@ -1,0 +1,154 @@
+-- `walk::list_page` meets its contract: by the level; the state after the pages passed, then those left, is the state after all.
+use Rattle.walk.proofs.List.{page-bad, page-in, page-good, each-end, each-next}
+use Rattle.walk.specs.List.{Fair, arrived, seen, each, after}
+use Rattle.kdb.specs.Calls.{L, windowOf}
+use Rattle.kdb.specs.Walk.{tour}
+use lib.ListN.{length, take, drop}
+use native.Mathlib.Nat.{sub-zero}
+use mathlib.Core.Path.{_≡_, refl, ap, _∙_}
+use borrow.Author.Needs.{needs}
+use native.Mathlib.Omega.{arith}
+use Prim.Native.Nat.{ℕ, _-_, _<_}
+use borrow.Fn.Kinds.{In}
+use borrow.Fn.PlainCycle.{Measures, is, falls, and}
+use Rattle.walk.proofs.list_page.Reads as list-page
+use Rattle.walk.proofs.list_page.Kinds as list-page-kinds
+use Rattle.walk.proofs.+list_page.Lts-list_page as list-page-lts
+use Rattle.walk.proofs.arrive.Reads as arrive-reads
+use Rattle.walk.proofs.list_leaves.Reads as list-leaves-reads
+use Rattle.walk.proofs.meeting.Reads as meeting-reads
+use Rattle.walk.proofs.region_page.Reads as region-page-reads
+use Rattle.words.proofs.read.Reads as read-reads
+use Rattle.walk.proofs.+list_page.{statement}
+use Rattle.walk.proofs.+list_page.Tie.{close}
+
+abbrev μ-list-page : Measures 3 list-page-kinds.ps ℕ
+μ-list-page κs a = a .1 .1 .1 .1 .1 .0
+
+abbrev list-page-at : ℕ → In 3 list-page-kinds.ps
+list-page-at t = and 3 list-page-kinds.ps (is 3 list-page-kinds.ps μ-list-page t) list-page.Pre
+
+abbrev list-page-below : ℕ → In 3 list-page-kinds.ps
+list-page-below t =
+    and 3 list-page-kinds.ps (falls 3 list-page-kinds.ps _<_ μ-list-page t) list-page.Pre
+
+abbrev list-page-calls : ℕ → list-page-lts.Claims
+list-page-calls t = (region-page-reads.Asked, region-page-reads.Learnt, arrive-reads.Asked, arrive-reads.Learnt, meeting-reads.Asked, meeting-reads.Learnt, list-leaves-reads.Asked, list-leaves-reads.Learnt, read-reads.Asked, read-reads.Learnt, list-page-below t, list-page.Post)
+
+abbrev list-page-Inv-loop : list-page-lts.InvT-loop
+list-page-Inv-loop pool n k window answer₀ level j t₀ child m i₀ answer t i = (length answer ≡ length answer₀) × Fair n t
+    × (after n (seen t answer) (each (tour L pool (windowOf k window) (level - 1 - 1)) (take (m - i) (drop i child)))
+    ≡ after n (seen t₀ answer₀) (each (tour L pool (windowOf k window) (level - 1 - 1)) (take m child)))
+
+abbrev list-page-μ-loop : list-page-lts.MeasureT-loop
+list-page-μ-loop pool n k window answer₀ level j t₀ child m i₀ answer t i = m - i
+
+list-page-region-page-requires : (t : ℕ) → list-page-lts.Need-region-page-requires (list-page-calls t) (list-page-at t) list-page.Post list-page-Inv-loop list-page-μ-loop
+list-page-region-page-requires t c κs = let p = c .before .before .before .pre .1 in (p .0 .least, (p .0 .few, p .1 .1 .1 .0))
+
+list-page-arrive-requires : (t : ℕ) → list-page-lts.Need-arrive-requires (list-page-calls t) (list-page-at t) list-page.Post list-page-Inv-loop list-page-μ-loop
+list-page-arrive-requires t c κs = let p = c .before .before .before .before .pre .1 in (p .0 .paged .most, p .1 .1 .1 .1)
+
+list-page-returns : (t : ℕ) → list-page-lts.Need-returns (list-page-calls t) (list-page-at t) list-page.Post list-page-Inv-loop list-page-μ-loop
+list-page-returns t c = let a = c .before .before .before .before .before .before .args in
+    let p = c .before .before .before .before .before .before .pre .1 in
+    let v = windowOf (a .k) (a .window .now) in
+    let r = c .before .arrive .ensures .0 ∙ ap (λ b. arrived (a .n) (a .j) b (a .s)) (c .before .before .region-page .ensures) in
+    (page-bad (a .pool .now) (a .n) (a .k) (p .0) v (a .j) (a .s) (p .1 .1 .1 .1) (a .answer .now) (a .level) (p .1 .1 .0) (c .before .arrive .result) r (c .if1 .taken), c .before .arrive .ensures .1)
+
+list-page-slice-aggregate-meeting : (t : ℕ) → list-page-lts.Need-slice-aggregate-meeting (list-page-calls t) (list-page-at t) list-page.Post list-page-Inv-loop list-page-μ-loop
+list-page-slice-aggregate-meeting t c = search needs
+
+list-page-meeting-requires : (t : ℕ) → list-page-lts.Need-meeting-requires (list-page-calls t) (list-page-at t) list-page.Post list-page-Inv-loop list-page-μ-loop
+list-page-meeting-requires t c κs = let a = c .before .before .before .before .before .before .before .args in
+    let p = c .before .before .before .before .before .before .before .pre .1 in
+    let v = windowOf (a .k) (a .window .now) in
+    let r = c .before .before .arrive .ensures .0 ∙ ap (λ b. arrived (a .n) (a .j) b (a .s)) (c .before .before .before .region-page .ensures) in
+    (p .0 .least, (page-in (a .pool .now) (a .n) (a .k) (p .0) v (a .j) (a .s) (p .1 .1 .1 .1) (a .answer .now) (a .level) (p .1 .1 .0) (c .before .before .arrive .result) r (c .before .if1 .left) .0, (p .1 .0, omega arith)))
+
+list-page-slice-aggregate-list-leaves : (t : ℕ) → list-page-lts.Need-slice-aggregate-list-leaves (list-page-calls t) (list-page-at t) list-page.Post list-page-Inv-loop list-page-μ-loop
+list-page-slice-aggregate-list-leaves t c = search needs
+
+list-page-list-leaves-requires : (t : ℕ) → list-page-lts.Need-list-leaves-requires (list-page-calls t) (list-page-at t) list-page.Post list-page-Inv-loop list-page-μ-loop
+list-page-list-leaves-requires t c κs = let p = c .before .before .before .before .before .before .before .before .before .before .before .before .pre .1 in (p .0, (p .1 .0, (omega (arith, c .before .before .before .before .meeting .ensures .1, c .before .before .before .before .meeting .kept .1 .1 .1 .1 .0), c .before .before .before .before .before .before .before .arrive .ensures .1)))
+
+list-page-same-length : (t : ℕ) → list-page-lts.Need-same-length (list-page-calls t) (list-page-at t) list-page.Post list-page-Inv-loop list-page-μ-loop
+list-page-same-length t c = c .before .before .list-leaves .kept .1 .1 .1 .1 .0
+
+list-page-returns-2 : (t : ℕ) → list-page-lts.Need-returns-2 (list-page-calls t) (list-page-at t) list-page.Post list-page-Inv-loop list-page-μ-loop
+list-page-returns-2 t c = let a = c .before .before .before .before .before .before .before .before .before .before .before .before .before .before .before .args in
+    let p = c .before .before .before .before .before .before .before .before .before .before .before .before .before .before .before .pre .1 in
+    let v = windowOf (a .k) (a .window .now) in
+    let r = c .before .before .before .before .before .before .before .before .before .before .arrive .ensures .0 ∙ ap (λ b. arrived (a .n) (a .j) b (a .s)) (c .before .before .before .before .before .before .before .before .before .before .before .region-page .ensures) in
+    let q : a .level - 1 - 1 ≡ 0 = omega (arith, p .1 .1 .0, c .before .before .before .before .before .if2 .taken) in
+    (c .before .before .list-leaves .ensures .0 ∙ (rw q at (page-good (a .pool .now) (a .n) (a .k) (p .0) v (a .j) (a .s) (p .1 .1 .1 .1) (a .answer .now) (a .level) (p .1 .1 .0) (c .before .before .before .before .before .before .before .before .before .before .arrive .result) r (c .before .before .before .before .before .before .before .before .before .if1 .left) _ (c .before .before .before .before .before .before .before .meeting .ensures .0))), c .before .before .list-leaves .ensures .1)
+
+list-page-loop-holds : (t : ℕ) → list-page-lts.Need-loop-holds (list-page-calls t) (list-page-at t) list-page.Post list-page-Inv-loop list-page-μ-loop
+list-page-loop-holds t c = (refl, c .before .before .before .before .before .arrive .ensures .1, rw (sub-zero (c .before .before .meeting .result)))
+
+list-page-sub-list-page : (t : ℕ) → list-page-lts.Need-sub-list-page (list-page-calls t) (list-page-at t) list-page.Post list-page-Inv-loop list-page-μ-loop
+list-page-sub-list-page t c = omega (arith, c .before .before .before .if2 .left)
+
+list-page-slice-aggregate-read : (t : ℕ) → list-page-lts.Need-slice-aggregate-read (list-page-calls t) (list-page-at t) list-page.Post list-page-Inv-loop list-page-μ-loop
+list-page-slice-aggregate-read t c = search needs
+
+list-page-read-requires : (t : ℕ) → list-page-lts.Need-read-requires (list-page-calls t) (list-page-at t) list-page.Post list-page-Inv-loop list-page-μ-loop
+list-page-read-requires t c κs = omega (arith, c .before .before .loop-test .taken, c .before .before .before .before .before .before .meeting .ensures .1, c .before .before .before .before .before .before .meeting .kept .1 .1 .1 .1 .0)
+
+list-page-list-page-requires : (t : ℕ) → list-page-lts.Need-list-page-requires (list-page-calls t) (list-page-at t) list-page.Post list-page-Inv-loop list-page-μ-loop
+list-page-list-page-requires t c κs = let p = c .before .before .before .before .before .before .before .before .before .before .before .before .before .before .before .pre in
+    (omega (arith, p .0, c .before .before .before .before .before .if2 .left), (p .1 .0, (p .1 .1 .0, (omega (arith, c .before .before .before .before .before .if2 .left), (c .read .ensures .1, c .before .before .before .before .loop .inv .1)))))
+
+list-page-add-i : (t : ℕ) → list-page-lts.Need-add-i (list-page-calls t) (list-page-at t) list-page.Post list-page-Inv-loop list-page-μ-loop
+list-page-add-i t c = omega (arith, c .before .before .before .before .before .before .loop-test .taken, c .before .before .before .before .before .before .before .before .before .before .meeting .ensures .1)
+
+list-page-loop-less : (t : ℕ) → list-page-lts.Need-loop-less (list-page-calls t) (list-page-at t) list-page.Post list-page-Inv-loop list-page-μ-loop
+list-page-loop-less t c = omega (arith, c .before .before .before .before .before .before .loop-test .taken)
+
+list-page-loop-again : (t : ℕ) → list-page-lts.Need-loop-again (list-page-calls t) (list-page-at t) list-page.Post list-page-Inv-loop list-page-μ-loop
+list-page-loop-again t c = let a = c .before .before .before .before .before .before .before .before .before .before .before .before .before .before .before .before .before .before .args in
+    let l = c .before .before .before .before .before .before .before .loop in
+    let h = c .before .before .before .before .before .before .loop-test .taken in
+    let m = c .before .before .before .before .before .before .before .before .before .before .meeting in (
+      c .before .before .list-page .kept .1 .1 .1 .1 .0 ∙ l .inv .0,
+      c .before .before .list-page .ensures .1,
+      each-next (a .n) (m .result) (l .i) (tour L (a .pool .now) (windowOf (a .k) (a .window .now)) (a .level - 1 - 1)) (m .last .1 .1 .1 .1 .0) (l .t) (l .answer) _ (l .inv .2) h (omega (arith, h, m .ensures .1, m .kept .1 .1 .1 .1 .0)) (c .before .before .list-page .result) (c .before .before .list-page .last .1 .1 .1 .1 .0) (rw (c .before .before .before .read .ensures .0) at (c .before .before .list-page .ensures .0)),
+    )
+
+list-page-same-length-2 : (t : ℕ) → list-page-lts.Need-same-length-2 (list-page-calls t) (list-page-at t) list-page.Post list-page-Inv-loop list-page-μ-loop
+list-page-same-length-2 t c = c .before .loop .inv .0
+
+list-page-returns-3 : (t : ℕ) → list-page-lts.Need-returns-3 (list-page-calls t) (list-page-at t) list-page.Post list-page-Inv-loop list-page-μ-loop
+list-page-returns-3 t c = let a = c .before .before .before .before .before .before .before .before .before .before .before .before .args in
+    let p = c .before .before .before .before .before .before .before .before .before .before .before .before .pre .1 in
+    let v = windowOf (a .k) (a .window .now) in
+    let r = c .before .before .before .before .before .before .before .arrive .ensures .0 ∙ ap (λ b. arrived (a .n) (a .j) b (a .s)) (c .before .before .before .before .before .before .before .before .region-page .ensures) in
+    let l = c .before .loop in
+    let m = c .before .before .before .before .meeting in
+    (each-end (a .n) (m .result) (l .i) (tour L (a .pool .now) v (a .level - 1 - 1)) (m .last .1 .1 .1 .1 .0) (l .t) (l .answer) _ (l .inv .2) (c .loop-test .left) (l .inv .1) ∙ page-good (a .pool .now) (a .n) (a .k) (p .0) v (a .j) (a .s) (p .1 .1 .1 .1) (a .answer .now) (a .level) (p .1 .1 .0) (c .before .before .before .before .before .before .before .arrive .result) r (c .before .before .before .before .before .before .if1 .left) _ (m .ensures .0), l .inv .1)
+
+pub +list-page-spec : {M : Type 1} → statement M
++list-page-spec = close μ-list-page λ t. list-page-lts.spec (list-page-calls t)
+    (list-page-at t)
+    list-page.Post
+    list-page-Inv-loop
+    list-page-μ-loop
+    (list-page-region-page-requires t)
+    (list-page-arrive-requires t)
+    (list-page-returns t)
+    (list-page-slice-aggregate-meeting t)
+    (list-page-meeting-requires t)
+    (list-page-slice-aggregate-list-leaves t)
+    (list-page-list-leaves-requires t)
+    (list-page-same-length t)
+    (list-page-returns-2 t)
+    (list-page-loop-holds t)
+    (list-page-sub-list-page t)
+    (list-page-slice-aggregate-read t)
+    (list-page-read-requires t)
+    (list-page-list-page-requires t)
+    (list-page-add-i t)
+    (list-page-loop-less t)
+    (list-page-loop-again t)
+    (list-page-same-length-2 t)
+    (list-page-returns-3 t)
