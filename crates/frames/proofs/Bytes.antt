@@ -7,8 +7,8 @@ use Prim.Native.Nat.{ℕ, zero, suc, _+_, _-_, _<_, _≤_, min}
 use native.Mathlib.Omega.{arith}
 use native.Mathlib.Numerals.{add-one}
 use lib.Dec.{leb, ltb, eqb, leb→le, nleb→lt, ltb→lt, nltb→le}
-use lib.ListN.{length, getD, take, drop, set, length-take}
-use lib.Seq.{sets, take-all, take-suc, take-suc-set, length-take-le}
+use lib.ListN.{length, getD, take, drop, set, length-drop}
+use lib.Seq.{sets, take-add, take-take, take-suc, take-suc-set, length-take-le}
 use borrow.Author.Tests.{le-leb, lt-leb, lt-ltb, le-ltb, eq-eqb, ne-eqb}
 use Rattle.kdb.specs.Frames.{Reply}
 use Rattle.kdb.proofs.Lists.{bool}
@@ -109,8 +109,20 @@ module _ {m m′ m″ : Store} {piece out out′ out″ : List ℕ} {i at at′ 
       go u g e k l = bool (ltb u i) (λ t. g u (ltb→lt u i t)) (λ t. let q : u ≡ i = omega (arith, nltb→le u i t) in rw q (omega arith))
 
 -- all is taken, or there is no room for another answer
-pub feeding-end : {m m′ : Store} {piece out out′ : List ℕ} {i at : ℕ} → Feeding m piece out m′ out′ i at → (i < length piece → length out < at + 531) → Fed m piece out m′ out′ i at
-feeding-end f h = record { store = f .store; stage = f .stage; text = f .text; fits = f .fits; within = f .within; goes = f .goes; stops = h }
+pub feeding-end : {m m′ : Store} {piece out out′ : List ℕ} {i at : ℕ} → Feeding m piece out m′ out′ i at → (i < length piece → length out < at + 531) → m′ .words ≤ 16384 → Fed m piece out m′ out′ i at
+feeding-end f h w =
+    record { store = f .store; stage = f .stage; text = f .text; fits = f .fits; within = f .within; goes = f .goes; stops = h; bounded = w }
+
+-- a piece is fed part by part: what is left of it after `at` bytes
+pub fed-on : (m : Store) (piece : List ℕ) (at : ℕ) {m′ m″ : Store} {out out′ : List ℕ} {taken written : ℕ} → m′ ≡ kept m (take at piece) → Fed m′ (take (length piece - at) (drop at piece)) out m″ out′ taken written
+    → at ≤ length piece → m″ ≡ kept m (take (at + taken) piece)
+fed-on m piece at {taken = taken} e f h =
+    let rest = drop at piece in
+    let l : length (take (length piece - at) rest) ≡ length piece - at = length-take-le (length piece - at) rest (omega (arith, length-drop at piece)) in
+    f .store
+    ∙ ap₂ kept e (take-take taken (length piece - at) rest (omega (arith, f .within)))
+    ∙ sym (kept-append m (take at piece) (take taken rest))
+    ∙ ap (kept m) (sym (take-add at taken piece))
 
 -- with room for an answer at least one byte is taken
 pub fed-some : {m m′ : Store} {piece out out′ : List ℕ} {written : ℕ} (taken : ℕ) → Fed m piece out m′ out′ taken written → 0 < length piece → 531 ≤ length out → 0 < taken

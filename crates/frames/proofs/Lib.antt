@@ -1,4 +1,3 @@
 pub mod Stream
 pub mod Lines
 pub mod Bytes
-pub mod Once

@@ -61,3 +61,4 @@ pub record Fed (m : Store) (piece out : List ℕ) (m′ : Store) (out′ : List 
   pub within : taken ≤ length piece
   pub goes : (t : ℕ) → t < taken → length (wrote (stageOf m) (take t piece)) + 531 ≤ length out
   pub stops : taken < length piece → length out < written + 531
+  pub bounded : m′ .words ≤ 16384

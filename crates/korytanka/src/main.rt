@@ -2,8 +2,11 @@
 use frames::Held;
 use libc::STDIN_FILENO;
 use libc::STDOUT_FILENO;
+ghost use mathlib.Core.Bool.{true};
 ghost use mathlib.Core.Path.{_≡_};
+ghost use Prim.Native.Nat.{_≤_};
 ghost use lib.ListN.{length};
+ghost use Rattle.frames.specs.State.{storeOf, kept};
 
 // What is kept between two reads, and whether the output still takes bytes.
 struct Passed {
@@ -12,7 +15,7 @@ struct Passed {
     open: bool,
 }
 
-// Feeds what was read, and writes each part of the output.
+// Feeds every byte that was read, once and in order, and writes each part of the output; it stops where the output takes no more.
 fn pass(
     piece: &[u8],
     from: Held,
@@ -21,7 +24,10 @@ fn pass(
     work: &mut [u32; 16384],
     out: &mut [u8],
 ) -> Passed
-    requires { ⌜ length (now out) ≡ 65536 ⌝ }
+    requires { ⌜ (length (now out) ≡ 65536) × (from .words ≤ 16384) ⌝ }
+    ensures { λ r. ⌜ (r .words ≤ 16384)
+        × (r .open ≡ true → storeOf (r .words) (r .digits) (now (line .exit)) (now (pool .exit)) (now (work .exit))
+        ≡ kept (storeOf (from .words) (from .digits) (now (line .entry)) (now (pool .entry)) (now (work .entry))) (now (piece .entry))) ⌝ }
 {
     let mut words = from.words;
     let mut digits = from.digits;

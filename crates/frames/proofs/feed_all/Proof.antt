@@ -38,7 +38,7 @@ same-length-4 : tie.Need-same-length-4 Inv-loop μ-loop
 same-length-4 c = c .before .before .loop .inv .out-long
 
 returns : tie.Need-returns Inv-loop μ-loop
-returns c = feeding-end (c .before .before .loop .inv .fed) (λ h. omega arith)
+returns c = feeding-end (c .before .before .loop .inv .fed) (λ h. omega arith) (c .before .before .loop .inv .sized .within)
 
 shared-slice-read-step : tie.Need-shared-slice-read-step Inv-loop μ-loop
 shared-slice-read-step c = search needs
@@ -73,7 +73,7 @@ same-length-8 : tie.Need-same-length-8 Inv-loop μ-loop
 same-length-8 c = c .before .loop .inv .out-long
 
 returns-2 : tie.Need-returns-2 Inv-loop μ-loop
-returns-2 c = feeding-end (c .before .loop .inv .fed) (λ h. absurd (omega arith))
+returns-2 c = feeding-end (c .before .loop .inv .fed) (λ h. absurd (omega arith)) (c .before .loop .inv .sized .within)
 
 pub feed-all-spec : {M : Type 1} → statement M
 feed-all-spec =

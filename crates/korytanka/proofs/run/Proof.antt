@@ -1,6 +1,7 @@
 -- `korytanka::run` meets its contract. Assumes nothing.
 use lib.Seq.{length-take-le}
 use mathlib.Core.Path.{_≡_, sym}
+use Prim.Native.Nat.{_≤_}
 use lib.ListN.{length}
 use borrow.Author.Needs.{needs}
 use native.Mathlib.Omega.{arith}
@@ -15,7 +16,7 @@ use Rattle.korytanka.proofs.pass.Reads as pass-reads
 use Rattle.libc.proofs.read.Reads as read-reads
 
 abbrev Inv-loop : tie.InvT-loop
-Inv-loop pool₀ work₀ line₀ input₀ out₀ words₀ digits₀ turns₀ pool work line input out words digits turns = (length input ≡ 65536) × (length out ≡ 65536)
+Inv-loop pool₀ work₀ line₀ input₀ out₀ words₀ digits₀ turns₀ pool work line input out words digits turns = (length input ≡ 65536) × ((length out ≡ 65536) × (words ≤ 16384))
 
 abbrev μ-loop : tie.MeasureT-loop
 μ-loop pool₀ work₀ line₀ input₀ out₀ words₀ digits₀ turns₀ pool work line input out words digits turns = turns
