@@ -6,4 +6,4 @@ pub mod Laying
 pub mod OnePage
 pub mod Slots
 pub mod Turns
-pub mod Bytes
+pub mod Bits

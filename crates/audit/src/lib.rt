@@ -95,7 +95,7 @@ fn differs(p: &[u32], k: usize, a: usize, at: usize, left: usize) -> bool
     true
 }
 
-// The point at word a is none of the `left` after it, if one of them has a first key with the same last byte; else it is told so.
+// The point at word a is none of the `left` after it, if one of them may have its first key; else it is told so.
 fn alone_if(p: &[u32], k: usize, a: usize, left: usize, met: bool) -> bool
     requires { ⌜ Row (now p) (k + 1) a (left + 1) ⌝ }
     ensures { λ r. ⌜ r ≡ cond met (alone (keyIn (now (p .entry)) k a) (keysIn left (now (p .entry)) k (a + (k + 1)))) true ⌝ }
@@ -106,23 +106,23 @@ fn alone_if(p: &[u32], k: usize, a: usize, left: usize, met: bool) -> bool
     true
 }
 
-// No two of the `count` points from word `at` on have the same keys. From the last point to the first; a mark for the last byte of each
+// No two of the `count` points from word `at` on have the same keys. From the last point to the first; a mark for the last seven bits of each
 // first key, so that most are not held against any other.
 fn distinct(p: &[u32], k: usize, at: usize, count: usize) -> bool
     requires { ⌜ Row (now p) (k + 1) at count × (1 ≤ k) ⌝ }
     ensures { λ r. ⌜ r ≡ distinctOf (keysIn count (now (p .entry)) k at) ⌝ }
 {
-    let mut bytes: [u8; 256] = [0; 256];
+    let mut marks: [u8; 128] = [0; 128];
     let mut a = at + count * (k + 1);
     let mut e = count;
     while 0 < e {
         a -= k + 1;
         e -= 1;
-        let h = read(p, a) % 256;
-        if !alone_if(p, k, a, count - (e + 1), bytes[h] != 0) {
+        let h = read(p, a) % 128;
+        if !alone_if(p, k, a, count - (e + 1), marks[h] != 0) {
             return false;
         }
-        bytes[h] = 1;
+        marks[h] = 1;
     }
     true
 }

@@ -1,8 +1,8 @@
--- `audit::distinct` meets its contract: from the last point to the first, with a mark for each byte met.
+-- `audit::distinct` meets its contract: from the last point to the first, with a mark for each first key met.
 use mathlib.Core.Path.{refl, sym, _∙_}
 use borrow.Author.Tests.{not-true, not-false}
 use Rattle.audit.proofs.Slots.{point-all}
-use Rattle.audit.proofs.Bytes.{Done, done-none, done-end, back-room, back-row, done-stop, done-next}
+use Rattle.audit.proofs.Bits.{Done, done-none, done-end, back-room, back-row, done-stop, done-next}
 use borrow.Author.Needs.{needs}
 use native.Mathlib.Omega.{arith}
 use Rattle.audit.proofs.distinct.Statement.{statement}
@@ -13,10 +13,10 @@ use Rattle.audit.proofs.alone_if.Reads as alone-if-reads
 use Rattle.words.proofs.read.Reads as read-reads
 
 abbrev Inv-loop : tie.InvT-loop
-Inv-loop p k at count bytes₀ a₀ e₀ bytes a e = Done p k at count bytes a e
+Inv-loop p k at count marks₀ a₀ e₀ marks a e = Done p k at count marks a e
 
 abbrev μ-loop : tie.MeasureT-loop
-μ-loop p k at count bytes₀ a₀ e₀ bytes a e = e
+μ-loop p k at count marks₀ a₀ e₀ marks a e = e
 
 add-a : tie.Need-add-a Inv-loop μ-loop
 add-a c = search needs
@@ -63,8 +63,8 @@ returns : tie.Need-returns Inv-loop μ-loop
 returns c = let x = c .before .before .before .before .before .before .args in
     done-stop (x .p .now) (x .k) (x .at) (x .count) _ _ _ (c .before .before .before .before .loop .inv) (omega arith) _ _ (c .before .before .before .before .before .before .pre .1) (c .before .before .read .ensures .0) refl (sym (c .before .alone-if .ensures) ∙ not-true _ (c .if1 .taken))
 
-array-write-bytes : tie.Need-array-write-bytes Inv-loop μ-loop
-array-write-bytes c = search needs
+array-write-marks : tie.Need-array-write-marks Inv-loop μ-loop
+array-write-marks c = search needs
 
 loop-less : tie.Need-loop-less Inv-loop μ-loop
 loop-less c = search needs
@@ -95,7 +95,7 @@ distinct-spec =
     array-read-alone-if
     alone-if-requires
     returns
-    array-write-bytes
+    array-write-marks
     loop-less
     loop-again
     returns-2)

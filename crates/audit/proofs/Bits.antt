@@ -1,5 +1,5 @@
--- No two points have the same keys: from the last to the first, with a mark for the last byte of each first key. A point whose byte has
--- no mark differs from all that were met; one whose byte has a mark is held against them.
+-- No two points have the same keys: from the last to the first, with a mark for the last seven bits of each first key. A point whose bits have
+-- no mark differs from all that were met; one whose bits have a mark is held against them.
 use mathlib.Core.Bool.{Bool, true, false, _&&_, not, cond}
 use mathlib.Core.List.{List, [], _∷_}
 use mathlib.Core.Path.{_≡_, refl, sym, ap, ap₂, _∙_, subst}
@@ -17,41 +17,41 @@ use Rattle.cover.specs.Boxes.{Row}
 use Rattle.audit.specs.Tests.{keyIn, keysIn, alone, distinctOf}
 use Rattle.audit.proofs.Walks.{case, true-false}
 
--- each of the keys has the mark of its byte
-abbrev pub byteOf : Key → ℕ
-byteOf [] = 0
-byteOf (x ∷ p) = x % 256
+-- each of the keys has the mark of its bits
+abbrev pub bitsOf : Key → ℕ
+bitsOf [] = 0
+bitsOf (x ∷ p) = x % 128
 
 pub record Marked (t : List ℕ) (xs : List Key) : Type 0 where
-  pub long : length t ≡ 256
-  pub each : Each (λ x. getD t (byteOf x) 0 ≡ 1) xs
+  pub long : length t ≡ 128
+  pub each : Each (λ x. getD t (bitsOf x) 0 ≡ 1) xs
 
-byte-small : (x : Key) → byteOf x < 256
-byte-small [] = omega arith
-byte-small (x ∷ p) = omega arith
+bits-small : (x : Key) → bitsOf x < 128
+bits-small [] = omega arith
+bits-small (x ∷ p) = omega arith
 
--- a key whose byte has no mark is none of them
-unmarked : (t : List ℕ) (x : Key) (xs : List Key) → getD t (byteOf x) 0 ≡ 0 → Each (λ y. getD t (byteOf y) 0 ≡ 1) xs → T (alone x xs)
+-- a key whose bits have no mark is none of them
+unmarked : (t : List ℕ) (x : Key) (xs : List Key) → getD t (bitsOf x) 0 ≡ 0 → Each (λ y. getD t (bitsOf y) 0 ≡ 1) xs → T (alone x xs)
 unmarked t x [] z h = tt
 unmarked t x (y ∷ xs) z h =
-    and-i (not (same x y)) _ (not-T (same x y) (λ s. let e = ap (λ (q : Key). getD t (byteOf q) 0) (same-eq x y s) in omega (arith, e, h .0))) (unmarked t x xs z (h .1))
+    and-i (not (same x y)) _ (not-T (same x y) (λ s. let e = ap (λ (q : Key). getD t (bitsOf q) 0) (same-eq x y s) in omega (arith, e, h .0))) (unmarked t x xs z (h .1))
 
-unmarked-alone : (t : List ℕ) (x : Key) (xs : List Key) → Marked t xs → getD t (byteOf x) 0 ≡ 0 → alone x xs ≡ true
+unmarked-alone : (t : List ℕ) (x : Key) (xs : List Key) → Marked t xs → getD t (bitsOf x) 0 ≡ 0 → alone x xs ≡ true
 unmarked-alone t x xs m z = is-true (alone x xs) (unmarked t x xs z (m .each))
 
-mark-next : (t : List ℕ) (x : Key) (xs : List Key) → Marked t xs → Marked (set t (byteOf x) 1) (x ∷ xs)
+mark-next : (t : List ℕ) (x : Key) (xs : List Key) → Marked t xs → Marked (set t (bitsOf x) 1) (x ∷ xs)
 mark-next t x xs m =
     record {
-      long = length-set t (byteOf x) 1 ∙ m .long;
-      each = (getD-set-same t (byteOf x) 1 0 (omega (arith, m .long, byte-small x)), go xs (m .each));
+      long = length-set t (bitsOf x) 1 ∙ m .long;
+      each = (getD-set-same t (bitsOf x) 1 0 (omega (arith, m .long, bits-small x)), go xs (m .each));
     }
   where
-    go : (ys : List Key) → Each (λ y. getD t (byteOf y) 0 ≡ 1) ys → Each (λ y. getD (set t (byteOf x) 1) (byteOf y) 0 ≡ 1) ys
+    go : (ys : List Key) → Each (λ y. getD t (bitsOf y) 0 ≡ 1) ys → Each (λ y. getD (set t (bitsOf x) 1) (bitsOf y) 0 ≡ 1) ys
     go [] h = tt
     go (y ∷ ys) h = (
-      bool (eqb (byteOf y) (byteOf x))
-          (λ e. let q = eqb→eq (byteOf y) (byteOf x) e in rw q (getD-set-same t (byteOf x) 1 0 (omega (arith, m .long, byte-small x))))
-          (λ n. getD-set-other t (byteOf x) (byteOf y) 1 0 (λ q. T-not (eqb (byteOf y) (byteOf x)) n (rw q (eqb-refl (byteOf x)))) ∙ h .0),
+      bool (eqb (bitsOf y) (bitsOf x))
+          (λ e. let q = eqb→eq (bitsOf y) (bitsOf x) e in rw q (getD-set-same t (bitsOf x) 1 0 (omega (arith, m .long, bits-small x))))
+          (λ n. getD-set-other t (bitsOf x) (bitsOf y) 1 0 (λ q. T-not (eqb (bitsOf y) (bitsOf x)) n (rw q (eqb-refl (bitsOf x)))) ∙ h .0),
       go ys (h .1),
     )
 
@@ -74,7 +74,7 @@ pub record Done (w : List ℕ) (k at count : ℕ) (t : List ℕ) (a e : ℕ) : T
   pub good : T (distinctOf (keysIn (count - e) w k a))
   pub marks : Marked t (keysIn (count - e) w k a)
 
-pub done-none : (w : List ℕ) (k at count : ℕ) (t : List ℕ) → Row w (k + 1) at count → length t ≡ 256 → Done w k at count t (at + count * (k + 1)) count
+pub done-none : (w : List ℕ) (k at count : ℕ) (t : List ℕ) → Row w (k + 1) at count → length t ≡ 128 → Done w k at count t (at + count * (k + 1)) count
 done-none w k at count t r h =
     let z : count - count ≡ 0 = omega arith in
     record {
@@ -125,39 +125,39 @@ module _ (w : List ℕ) (k at count : ℕ) (t : List ℕ) (a e : ℕ) (m : Done 
     more-is : keysIn (count - (e - 1)) w k (a - (k + 1)) ≡ now ∷ met
     more-is = ap (λ (n : ℕ). keysIn n w k (a - (k + 1))) more ∙ ap (λ (b : ℕ). now ∷ keysIn (count - e) w k b) step
 
-    byte-is : (x : ℕ) → 1 ≤ k → x ≡ getD w (a - (k + 1)) 0 → x % 256 ≡ byteOf now
-    byte-is x h g = let z : k ≡ suc (k - 1) = omega arith in go (k - 1) z
+    bits-are : (x : ℕ) → 1 ≤ k → x ≡ getD w (a - (k + 1)) 0 → x % 128 ≡ bitsOf now
+    bits-are x h g = let z : k ≡ suc (k - 1) = omega arith in go (k - 1) z
       where
-        go : (n : ℕ) → k ≡ suc n → x % 256 ≡ byteOf (keyIn w k (a - (k + 1)))
-        go n z = ap (λ (y : ℕ). y % 256) (g ∙ ap (λ (b : ℕ). getD w b 0) (sym (add-zero (a - (k + 1))))) ∙ sym (ap (λ (i : ℕ). byteOf (keysBy i (λ d. getD w (a - (k + 1) + d) 0) 0)) z)
+        go : (n : ℕ) → k ≡ suc n → x % 128 ≡ bitsOf (keyIn w k (a - (k + 1)))
+        go n z = ap (λ (y : ℕ). y % 128) (g ∙ ap (λ (b : ℕ). getD w b 0) (sym (add-zero (a - (k + 1))))) ∙ sym (ap (λ (i : ℕ). bitsOf (keysBy i (λ d. getD w (a - (k + 1) + d) 0) 0)) z)
 
-    -- x is the point's first key, v the mark of its byte
+    -- x is the point's first key, v the mark of its bits
     abbrev test : ℕ → Bool
     test v = cond (not (eqb v 0)) (alone now (keysIn (count - (e - 1 + 1)) w k (a - (k + 1) + (k + 1)))) true
 
-    test-is : (v : ℕ) → v ≡ getD t (byteOf now) 0 → test v ≡ alone now met
+    test-is : (v : ℕ) → v ≡ getD t (bitsOf now) 0 → test v ≡ alone now met
     test-is v q =
         case (eqb v 0)
         (λ z. let u : v ≡ 0 = eqb→eq v 0 (of-true (eqb v 0) z) in rw z (sym (unmarked-alone t now met (m .marks) (sym q ∙ u))))
         (λ z. rw z (ap (alone now) met-is))
 
-    pub done-stop : (x v : ℕ) → 1 ≤ k → x ≡ getD w (a - (k + 1)) 0 → v ≡ getD t (x % 256) 0 → test v ≡ false → false ≡ distinctOf (keysIn count w k at)
+    pub done-stop : (x v : ℕ) → 1 ≤ k → x ≡ getD w (a - (k + 1)) 0 → v ≡ getD t (x % 128) 0 → test v ≡ false → false ≡ distinctOf (keysIn count w k at)
     done-stop x v h g q f =
         let n : count ≡ e - 1 + (count - (e - 1)) = omega (arith, m .most) in
         let b : a - (k + 1) ≡ at + (e - 1) * (k + 1) = omega (arith, m .from, back) in
         sym (is-false (distinctOf (keysIn count w k at)) (not-T (distinctOf (keysIn count w k at)) (λ y.
         let d = tail-distinct (e - 1) (count - (e - 1)) w k at (subst (λ (i : ℕ). T (distinctOf (keysIn i w k at))) n y) in
         let u : T (distinctOf (now ∷ met)) = subst (λ (l : List Key). T (distinctOf l)) (ap (keysIn (count - (e - 1)) w k) (sym b) ∙ more-is) d in
-        true-false (sym (is-true (alone now met) (and-l (alone now met) _ u)) ∙ (sym (test-is v (q ∙ ap (λ (i : ℕ). getD t i 0) (byte-is x h g))) ∙ f)))))
+        true-false (sym (is-true (alone now met) (and-l (alone now met) _ u)) ∙ (sym (test-is v (q ∙ ap (λ (i : ℕ). getD t i 0) (bits-are x h g))) ∙ f)))))
 
-    pub done-next : (x v : ℕ) → 1 ≤ k → x ≡ getD w (a - (k + 1)) 0 → v ≡ getD t (x % 256) 0 → test v ≡ true → Done w k at count (set t (x % 256) 1) (a - (k + 1)) (e - 1)
+    pub done-next : (x v : ℕ) → 1 ≤ k → x ≡ getD w (a - (k + 1)) 0 → v ≡ getD t (x % 128) 0 → test v ≡ true → Done w k at count (set t (x % 128) 1) (a - (k + 1)) (e - 1)
     done-next x v h g q f =
-        let y = sym (test-is v (q ∙ ap (λ (i : ℕ). getD t i 0) (byte-is x h g))) ∙ f in
+        let y = sym (test-is v (q ∙ ap (λ (i : ℕ). getD t i 0) (bits-are x h g))) ∙ f in
         record {
           most = omega (arith, m .most);
           from = omega (arith, m .from, back);
           row = record { wide = m .row .wide; near = m .row .near; ends = rw more (omega (arith, step, m .row .ends, suc-mul (count - e) (k + 1))) };
           good = subst (λ (l : List Key). T (distinctOf l)) (sym more-is) (and-i (alone now met) _ (of-true (alone now met) y) (m .good));
-          marks = subst (λ (l : List Key). Marked (set t (x % 256) 1) l) (sym more-is)
-              (subst (λ (i : ℕ). Marked (set t i 1) (now ∷ met)) (sym (byte-is x h g)) (mark-next t now met (m .marks)));
+          marks = subst (λ (l : List Key). Marked (set t (x % 128) 1) l) (sym more-is)
+              (subst (λ (i : ℕ). Marked (set t i 1) (now ∷ met)) (sym (bits-are x h g)) (mark-next t now met (m .marks)));
         }
