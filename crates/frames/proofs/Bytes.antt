@@ -1,15 +1,14 @@
 -- One byte in the buffers, and the loop that takes a piece of the input.
-use mathlib.Core.Bool.{Bool, true, false, cond}
 use mathlib.Core.List.{List, [], _∷_, _++_, append-nil}
 use mathlib.Core.Option.{Option, none, some}
 use mathlib.Core.Path.{_≡_, refl, sym, ap, ap₂, _∙_}
 use Prim.Native.Nat.{ℕ, zero, suc, _+_, _-_, _<_, _≤_, min}
 use native.Mathlib.Omega.{arith}
 use native.Mathlib.Numerals.{add-one}
-use lib.Dec.{leb, ltb, eqb, leb→le, nleb→lt, ltb→lt, nltb→le}
+use lib.Dec.{leb, ltb, leb→le, nleb→lt, ltb→lt, nltb→le}
 use lib.ListN.{length, getD, take, drop, set, length-drop}
 use lib.Seq.{sets, take-add, take-take, take-suc, take-suc-set, length-take-le}
-use borrow.Author.Tests.{le-leb, lt-leb, lt-ltb, le-ltb, eq-eqb, ne-eqb}
+use borrow.Author.Tests.{lt-ltb, le-ltb, ne-eqb}
 use Rattle.kdb.specs.Frames.{Reply}
 use Rattle.kdb.proofs.Lists.{bool}
 use Rattle.replies.specs.Reply.{workAfter, Sized, Replied}

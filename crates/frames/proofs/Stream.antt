@@ -1,15 +1,15 @@
 -- The bytes that the stream writes are kdb's output of the whole input, cut into pieces anywhere.
-use mathlib.Core.Bool.{Bool, true, false, not, cond}
+use mathlib.Core.Bool.{true, not, cond}
 use mathlib.Core.List.{List, [], _∷_, _++_, append-assoc, append-nil}
 use mathlib.Core.Option.{Option, none, some}
 use mathlib.Core.Path.{_≡_, refl, sym, ap, ap₂, _∙_}
-use Prim.Native.Nat.{ℕ, suc, _<_, _≤_}
+use Prim.Native.Nat.{ℕ, suc}
 use native.Mathlib.Omega.{arith}
 use lib.Dec.{T, leb, ltb, eqb, eqb→eq, nleb→lt, ltb→lt, nltb→le}
 use lib.ListN.{length, length-append}
-use borrow.Author.Tests.{le-leb, lt-leb, lt-ltb, le-ltb}
+use borrow.Author.Tests.{le-leb, lt-leb}
 use Rattle.kdb.specs.Lists.{gather}
-use Rattle.kdb.specs.Frames.{Reply, refusal, reply, lines, session, output}
+use Rattle.kdb.specs.Frames.{Reply, reply, lines, session, output}
 use Rattle.kdb.proofs.Lists.{bool, is-true, is-false, every-append, and-i}
 use Rattle.kdb.proofs.Frames.{reply-long, unbroken, lines-break, lines-last}
 use Rattle.frames.specs.Stream.{Stage, start, longer, closed, next, said, after, wrote, fed}

@@ -1,6 +1,6 @@
 -- The frame program byte by byte: what is held between two bytes, and what a byte writes. `Stream` in proofs/ shows that this is `output`
 -- of kdb, whole or cut into pieces anywhere.
-use mathlib.Core.Bool.{Bool, true, false, cond}
+use mathlib.Core.Bool.{cond}
 use mathlib.Core.List.{List, [], _∷_, _++_}
 use mathlib.Core.Option.{Option, none, some}
 use Prim.Native.Nat.{ℕ}

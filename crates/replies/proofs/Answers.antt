@@ -1,5 +1,5 @@
 -- The answers of the calls as text: an outcome's number, values and locations are what the code writes.
-use mathlib.Core.Bool.{Bool, true, false, _&&_, cond}
+use mathlib.Core.Bool.{false, _&&_, cond}
 use mathlib.Core.List.{List, [], _∷_, _++_}
 use mathlib.Core.Option.{Option, none, some}
 use mathlib.Core.Path.{_≡_, refl, sym, ap, _∙_}
@@ -8,11 +8,11 @@ use native.Mathlib.Omega.{arith}
 use lib.ListN.{length, getD, take, drop, replicate, length-replicate, take-append-drop}
 use lib.Seq.{sets, take-nil, take-take, getD-take, length-take-le}
 use lib.Dec.{leb, eqb}
-use borrow.Author.Tests.{lt-leb, ne-eqb, eq-eqb}
+use borrow.Author.Tests.{lt-leb, ne-eqb}
 use Rattle.kdb.specs.Pool.{goodLength, domains}
 use Rattle.kdb.specs.Walk.{End, rootless, bad, absent, here, findWalk, listWalk}
 use Rattle.kdb.specs.Calls.{L, Call, format, place, remove, find, list, Buffers, lent, Outcome, gives, refuses, Test, _or_, unless, judge, goodDomains, windowOf, removing, finding, tests, core, outcome, Promise}
-use Rattle.kdb.specs.Frames.{wordsOf, newOf, placeOf, slots, withWords, framed, Frame, new, call, unknown, Reply, found, answerText, renewed, answered, obey}
+use Rattle.kdb.specs.Frames.{wordsOf, newOf, placeOf, slots, withWords, framed, Frame, new, call, unknown, Reply, answerText, renewed, answered, obey}
 use Rattle.kdb.proofs.Lists.{and-false, cases, cond-case}
 use Rattle.kdb.proofs.Calls.{refusal-keeps}
 use Rattle.kdb.proofs.Frames.{format-length, place-work}
@@ -29,9 +29,7 @@ use Rattle.index.specs.declared.Removed.{Removed}
 use Rattle.index.specs.declared.Removed.the-variants as removes
 use Rattle.replies.proofs.Replies.{laid, laid-same, take-least}
 use Rattle.text.specs.Text.{Written}
-use Rattle.replies.specs.Reply.{valuesOf, textOf}
-use Rattle.replies.specs.Reply.{workAfter}
-use Rattle.replies.specs.Reply.{removeOf, findOf, listOf, Replied, Spoken}
+use Rattle.replies.specs.Reply.{valuesOf, textOf, workAfter, removeOf, findOf, listOf, Replied, Spoken}
 
 -- an answer without values, and one with two
 pub refused-spoken : (n : ℕ) (b : Buffers) {number count first second : ℕ} → (number ≡ n) × ((count ≡ 0) × (first ≡ 0)) → Spoken (refuses n b) number count first second

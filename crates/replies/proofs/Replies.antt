@@ -1,21 +1,20 @@
 -- A frame's bytes by their first byte, and the replies that stand in the buffers.
-use mathlib.Core.Bool.{Bool, true, false, cond}
+use mathlib.Core.Bool.{cond}
 use mathlib.Core.List.{List, [], _∷_, _++_, append-nil}
-use mathlib.Core.Option.{Option, none, some}
+use mathlib.Core.Option.{none, some}
 use mathlib.Core.Path.{_≡_, refl, sym, ap, ap₂, _∙_}
 use Prim.Native.Nat.{ℕ, zero, suc, _+_, _-_, _<_, _≤_, min}
 use native.Mathlib.Omega.{arith}
-use lib.Dec.{leb, ltb, eqb, leb→le, nleb→lt}
+use lib.Dec.{leb, ltb, leb→le, nleb→lt}
 use lib.ListN.{length, getD, take, drop, set, take-append-drop}
 use lib.Seq.{sets, take-all, take-at, take-length, take-nil, length-take-le}
 use borrow.Author.Tests.{le-leb, lt-leb, lt-ltb, ne-eqb}
 use Rattle.kdb.specs.Lists.{gather}
-use Rattle.kdb.specs.Frames.{hex, Frame, unknown, withWords, wordsOf, frameOf, framed, parse, bytesOf, Reply, refusal, obey, reply}
+use Rattle.kdb.specs.Frames.{hex, Frame, unknown, withWords, wordsOf, frameOf, framed, Reply, refusal}
 use Rattle.kdb.proofs.Lists.{bool, sets-front}
 use Rattle.text.specs.Text.{counted, Written}
 use Rattle.text.proofs.Write.{written-then, written-feed}
-use Rattle.replies.specs.Reply.{valuesOf, textOf}
-use Rattle.replies.specs.Reply.{Replied, Unframed}
+use Rattle.replies.specs.Reply.{valuesOf, textOf, Replied, Unframed}
 
 -- the number 255 alone is FF
 pub ff : textOf 255 [] [] ≡ 70 ∷ 70 ∷ 10 ∷ []

@@ -1,14 +1,11 @@
 -- Laws of a turn and of the end for the loops that write an answer's text.
-use mathlib.Core.Bool.{cond}
 use mathlib.Core.List.{List, [], _∷_, _++_, append-nil}
 use mathlib.Core.Path.{_≡_, refl, sym, ap, ap₂, _∙_}
 use Prim.Native.Nat.{ℕ, zero, suc, _+_, _-_, _*_, _/_, _%_, _<_, _≤_}
 use native.Mathlib.Omega.{arith}
 use native.Mathlib.Numerals.{add-one}
 use lib.ListN.{length, getD, take, set, length-append, length-set}
-use lib.Seq.{sets, take-suc, take-all, take-nil, length-sets}
-use lib.Dec.{ltb}
-use borrow.Author.Tests.{lt-ltb}
+use lib.Seq.{sets, take-suc, take-all, length-sets}
 use Rattle.kdb.specs.Lists.{gather}
 use Rattle.kdb.specs.Frames.{digitOf, hex}
 use Rattle.kdb.proofs.Lists.{sets-append, set-past, gather-append}

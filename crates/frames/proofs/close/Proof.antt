@@ -1,4 +1,4 @@
--- `frames::close` meets its contract. Assumes nothing.
+-- `frames::close` meets its contract: a line that is too long, or the line's answer.
 use Rattle.replies.proofs.Replies.{unframed, counted-some, counted-none}
 use lib.Seq.{length-take-le}
 use mathlib.Core.Path.{refl, sym}

@@ -1,6 +1,5 @@
--- `frames::feed` meets its contract. Assumes nothing.
+-- `frames::feed` meets its contract: words past the buffer's end count as its end.
 use borrow.Author.Needs.{needs}
-use native.Mathlib.Omega.{arith}
 use Rattle.frames.proofs.feed.Statement.{statement}
 use Rattle.frames.proofs.feed.Tie as tie
 use Rattle.frames.proofs.feed.Reads as reads

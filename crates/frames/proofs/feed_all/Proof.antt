@@ -1,4 +1,4 @@
--- `frames::feed_all` meets its contract. Assumes nothing.
+-- `frames::feed_all` meets its contract: a byte a turn; all that is kept, and the output, are those after the bytes taken.
 use Rattle.frames.proofs.Bytes.{Looping, feeding-none, feeding-next, feeding-end}
 use Rattle.frames.specs.State.{storeOf}
 use lib.ListN.{length}

@@ -1,4 +1,4 @@
--- `frames::finish` meets its contract. Assumes nothing.
+-- `frames::finish` meets its contract: words past the buffer's end count as its end.
 use Rattle.frames.proofs.Lines.{take-within}
 use borrow.Author.Needs.{needs}
 use native.Mathlib.Omega.{arith}

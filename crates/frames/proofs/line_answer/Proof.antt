@@ -1,4 +1,4 @@
--- `frames::line_answer` meets its contract. Assumes nothing.
+-- `frames::line_answer` meets its contract: an empty line, a line that is too long or has no bytes, and the reply to its bytes.
 use lib.ListN.{take, length-take}
 use Rattle.replies.proofs.Replies.{unframed, laid-same, counted-some, counted-none}
 use Rattle.frames.proofs.Lines.{reply-empty, reply-bytes, parse-empty, parse-long, parse-bytes}

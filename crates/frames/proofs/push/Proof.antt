@@ -1,4 +1,4 @@
--- `frames::push` meets its contract. Assumes nothing.
+-- `frames::push` meets its contract: the character is kept, or there is no room.
 use mathlib.Core.Path.{refl, sym}
 use lib.Seq.{set-out}
 use borrow.Author.Needs.{needs}

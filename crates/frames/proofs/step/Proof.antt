@@ -1,4 +1,4 @@
--- `frames::step` meets its contract. Assumes nothing.
+-- `frames::step` meets its contract: a line feed ends the line, another byte makes it longer.
 use Rattle.frames.proofs.Bytes.{step-feed, step-other}
 use Rattle.frames.specs.State.{storeOf}
 use borrow.Author.Needs.{needs}

@@ -1,10 +1,10 @@
--- `korytanka::pass` meets its contract. Assumes nothing.
+-- `korytanka::pass` meets its contract: part by part; all that is kept is that after the bytes fed so far.
 use Rattle.frames.proofs.Bytes.{fed-some, fed-on}
 use Rattle.frames.specs.State.{storeOf, kept}
 use lib.Seq.{length-take-le, take-all}
 use lib.Dec.{T}
 use lib.ListN.{length, take, drop, length-take, length-drop}
-use mathlib.Core.Path.{_≡_, refl, sym, ap, subst, _∙_}
+use mathlib.Core.Path.{_≡_, sym, ap, subst, _∙_}
 use Prim.Native.Nat.{_-_, _≤_, min}
 use borrow.Author.Needs.{needs}
 use native.Mathlib.Omega.{arith}

@@ -1,4 +1,4 @@
--- `korytanka::run` meets its contract. Assumes nothing.
+-- `korytanka::run` meets its contract: the buffers keep their sizes, and the pool its bound; each turn falls by one.
 use lib.Seq.{length-take-le}
 use mathlib.Core.Path.{_≡_, sym}
 use Prim.Native.Nat.{_≤_}

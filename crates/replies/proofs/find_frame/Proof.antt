@@ -1,4 +1,4 @@
--- `replies::find_frame` meets its contract. Assumes nothing.
+-- `replies::find_frame` meets its contract: no frame, or the outcome of find.
 use Rattle.replies.proofs.Answers.{find-replied}
 use Rattle.replies.proofs.Replies.{unframed, counted-some, counted-none}
 use lib.Seq.{length-take-le}

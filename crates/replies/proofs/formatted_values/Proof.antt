@@ -1,7 +1,6 @@
--- `replies::formatted_values` meets its contract. Assumes nothing.
-use Rattle.replies.proofs.Answers.{refused-spoken, two-spoken}
+-- `replies::formatted_values` meets its contract: the number of each case of format's answer.
+use Rattle.replies.proofs.Answers.{refused-spoken}
 use borrow.Author.Needs.{needs}
-use native.Mathlib.Omega.{arith}
 use Rattle.replies.proofs.formatted_values.Statement.{statement}
 use Rattle.replies.proofs.formatted_values.Tie as tie
 use Rattle.replies.proofs.formatted_values.Reads as reads

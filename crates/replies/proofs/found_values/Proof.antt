@@ -1,7 +1,6 @@
--- `replies::found_values` meets its contract. Assumes nothing.
+-- `replies::found_values` meets its contract: the number and the values of each case of find's answer.
 use Rattle.replies.proofs.Answers.{refused-spoken, two-spoken}
 use borrow.Author.Needs.{needs}
-use native.Mathlib.Omega.{arith}
 use Rattle.replies.proofs.found_values.Statement.{statement}
 use Rattle.replies.proofs.found_values.Tie as tie
 use Rattle.replies.proofs.found_values.Reads as reads

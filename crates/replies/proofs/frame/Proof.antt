@@ -1,4 +1,4 @@
--- `replies::frame` meets its contract. Assumes nothing.
+-- `replies::frame` meets its contract: the first byte decides, and each case is its function's reply.
 use Rattle.replies.proofs.Replies.{ff, unframed, frame-empty, frame-first, frame-words, frame-other}
 use Rattle.replies.specs.Reply.{removeOf, findOf, listOf}
 use Rattle.kdb.specs.Frames.{placeOf}

@@ -1,4 +1,4 @@
--- `replies::list_frame` meets its contract. Assumes nothing.
+-- `replies::list_frame` meets its contract: no frame, or the outcome of list with the locations that its slots took.
 use lib.ListN.{take, length-take}
 use Rattle.replies.proofs.Answers.{list-replied}
 use Rattle.kdb.specs.Frames.{slots}

@@ -1,7 +1,6 @@
--- `replies::no_frame` meets its contract. Assumes nothing.
+-- `replies::no_frame` meets its contract: the number 255 alone is FF.
 use Rattle.replies.proofs.Replies.{ff}
 use borrow.Author.Needs.{needs}
-use native.Mathlib.Omega.{arith}
 use Rattle.replies.proofs.no_frame.Statement.{statement}
 use Rattle.replies.proofs.no_frame.Tie as tie
 use Rattle.replies.proofs.no_frame.Reads as reads

@@ -1,10 +1,9 @@
--- `replies::place_frame` meets its contract. Assumes nothing.
+-- `replies::place_frame` meets its contract: no frame, or the outcome of place in both buffers.
 use Rattle.replies.proofs.Replies.{ff, unframed, counted-some, counted-none}
 use lib.Seq.{length-take-le}
-use lib.ListN.{take}
+use lib.ListN.{take, length, getD}
 use mathlib.Core.Path.{_≡_, refl, sym, _∙_}
 use Rattle.replies.proofs.Answers.{place-words, place-replied, place-worked}
-use lib.ListN.{length, getD}
 use Prim.Native.Nat.{_-_}
 use borrow.Author.Needs.{needs}
 use native.Mathlib.Omega.{arith}

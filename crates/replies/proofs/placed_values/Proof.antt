@@ -1,7 +1,6 @@
--- `replies::placed_values` meets its contract. Assumes nothing.
-use Rattle.replies.proofs.Answers.{refused-spoken, one-spoken}
+-- `replies::placed_values` meets its contract: the number of each case of place's answer.
+use Rattle.replies.proofs.Answers.{refused-spoken}
 use borrow.Author.Needs.{needs}
-use native.Mathlib.Omega.{arith}
 use Rattle.replies.proofs.placed_values.Statement.{statement}
 use Rattle.replies.proofs.placed_values.Tie as tie
 use Rattle.replies.proofs.placed_values.Reads as reads

@@ -1,4 +1,4 @@
--- `replies::put_answer` meets its contract. Assumes nothing.
+-- `replies::put_answer` meets its contract: its parts stand one behind the other.
 use Rattle.replies.proofs.Replies.{answer-parts}
 use borrow.Author.Needs.{needs}
 use native.Mathlib.Omega.{arith}

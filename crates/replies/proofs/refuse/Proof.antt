@@ -1,6 +1,5 @@
--- `replies::refuse` meets its contract. Assumes nothing.
+-- `replies::refuse` meets its contract: an answer without values.
 use borrow.Author.Needs.{needs}
-use native.Mathlib.Omega.{arith}
 use Rattle.replies.proofs.refuse.Statement.{statement}
 use Rattle.replies.proofs.refuse.Tie as tie
 use Rattle.replies.proofs.refuse.Reads as reads

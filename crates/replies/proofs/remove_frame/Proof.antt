@@ -1,8 +1,8 @@
--- `replies::remove_frame` meets its contract. Assumes nothing.
+-- `replies::remove_frame` meets its contract: no frame, or the outcome of remove.
 use Rattle.replies.proofs.Replies.{unframed, counted-some, counted-none}
 use lib.Seq.{length-take-le}
 use lib.ListN.{take}
-use mathlib.Core.Path.{sym, _∙_}
+use mathlib.Core.Path.{sym}
 use Rattle.replies.proofs.Answers.{remove-replied}
 use borrow.Author.Needs.{needs}
 use native.Mathlib.Omega.{arith}

@@ -1,7 +1,6 @@
--- `replies::removed_values` meets its contract. Assumes nothing.
+-- `replies::removed_values` meets its contract: the number and the value of each case of remove's answer.
 use Rattle.replies.proofs.Answers.{refused-spoken, one-spoken}
 use borrow.Author.Needs.{needs}
-use native.Mathlib.Omega.{arith}
 use Rattle.replies.proofs.removed_values.Statement.{statement}
 use Rattle.replies.proofs.removed_values.Tie as tie
 use Rattle.replies.proofs.removed_values.Reads as reads

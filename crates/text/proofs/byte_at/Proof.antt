@@ -1,4 +1,4 @@
--- `text::byte_at` meets its contract. Assumes nothing.
+-- `text::byte_at` meets its contract: the byte within the slice, 0 past its end.
 use lib.ListN.{List·getD-eq-default}
 use mathlib.Core.Path.{refl, sym}
 use borrow.Author.Needs.{needs}

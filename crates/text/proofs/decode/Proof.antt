@@ -1,4 +1,4 @@
--- `text::decode` meets its contract. Assumes nothing.
+-- `text::decode` meets its contract: two digits a turn; what is read and what is left are the line's bytes.
 use Rattle.text.proofs.Read.{Taken, taken-none, bytes-next, bytes-bad, bytes-odd, bytes-end}
 use Rattle.kdb.specs.Frames.{bytesOf}
 use lib.ListN.{length}

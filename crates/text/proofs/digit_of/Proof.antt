@@ -1,7 +1,6 @@
--- `text::digit_of` meets its contract. Assumes nothing.
+-- `text::digit_of` meets its contract: each range of values has its digit.
 use borrow.Author.Tests.{lt-ltb, le-ltb}
 use borrow.Author.Needs.{needs}
-use native.Mathlib.Omega.{arith}
 use Rattle.text.proofs.digit_of.Statement.{statement}
 use Rattle.text.proofs.digit_of.Tie as tie
 use Rattle.text.proofs.digit_of.Reads as reads

@@ -1,4 +1,4 @@
--- `text::digit_value` meets its contract. Assumes nothing.
+-- `text::digit_value` meets its contract: each range of characters has its values, and no other character is a digit.
 use Rattle.text.proofs.Read.{inside, under, over}
 use borrow.Author.Tests.{lt-ltb}
 use borrow.Author.Needs.{needs}

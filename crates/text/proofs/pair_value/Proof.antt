@@ -1,7 +1,6 @@
--- `text::pair_value` meets its contract. Assumes nothing.
+-- `text::pair_value` meets its contract: both are digits, or the byte is none.
 use Rattle.text.proofs.Read.{pair-digits, pair-bad}
 use borrow.Author.Needs.{needs}
-use native.Mathlib.Omega.{arith}
 use Rattle.text.proofs.pair_value.Statement.{statement}
 use Rattle.text.proofs.pair_value.Tie as tie
 use Rattle.text.proofs.pair_value.Reads as reads

@@ -1,8 +1,7 @@
--- `text::put` meets its contract. Assumes nothing.
+-- `text::put` meets its contract: the byte is set, or lies past the end.
 use mathlib.Core.Path.{sym}
 use lib.Seq.{set-out}
 use borrow.Author.Needs.{needs}
-use native.Mathlib.Omega.{arith}
 use Rattle.text.proofs.put.Statement.{statement}
 use Rattle.text.proofs.put.Tie as tie
 use Rattle.text.proofs.put.Reads as reads

@@ -1,4 +1,4 @@
--- `text::put_hex` meets its contract. Assumes nothing.
+-- `text::put_hex` meets its contract: the last digit first; those still to be written are the digits of what is left.
 use Rattle.text.proofs.Write.{Hexed, hexed-next, hexed-end}
 use mathlib.Core.Path.{refl}
 use borrow.Author.Needs.{needs}

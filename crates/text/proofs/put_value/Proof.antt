@@ -1,4 +1,4 @@
--- `text::put_value` meets its contract. Assumes nothing.
+-- `text::put_value` meets its contract: the digits, or nothing.
 use Rattle.text.proofs.Write.{written-none}
 use borrow.Author.Needs.{needs}
 use native.Mathlib.Omega.{arith}

@@ -1,4 +1,4 @@
--- `text::put_words` meets its contract. Assumes nothing.
+-- `text::put_words` meets its contract: a word a turn; the texts of the words so far stand in the buffer.
 use Rattle.text.proofs.Write.{Worded, worded-none, worded-next, worded-end, written-long, length-hex}
 use Rattle.kdb.specs.Frames.{hex}
 use lib.ListN.{length}

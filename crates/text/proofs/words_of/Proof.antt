@@ -1,4 +1,4 @@
--- `text::words_of` meets its contract. Assumes nothing.
+-- `text::words_of` meets its contract: four bytes a turn; what is read and what is left are the words.
 use Rattle.text.proofs.Read.{Taken, taken-none, words-next, words-part, words-end}
 use Rattle.kdb.specs.Frames.{wordsOf}
 use lib.ListN.{length}
