@@ -188,14 +188,15 @@ fn arrive(n: usize, j: usize, good: bool, s: Tally) -> Tally
 
 // 1 where it holds, else 0.
 fn one(holds: bool) -> usize
-    ensures { λ r. ⌜ r ≡ bit holds ⌝ }
+    ensures { λ r. ⌜ (r ≡ bit holds) × (r ≤ 1) ⌝ }
 {
     if holds { 1 } else { 0 }
 }
 
-// The one where it holds, else the other.
+// The one word where it holds, else the other.
 fn either(holds: bool, one: usize, other: usize) -> usize
-    ensures { λ r. ⌜ r ≡ cond holds one other ⌝ }
+    requires { ⌜ (one < 2 ^ 32) × (other < 2 ^ 32) ⌝ }
+    ensures { λ r. ⌜ (r ≡ cond holds one other) × (r < 2 ^ 32) ⌝ }
 {
     if holds { one } else { other }
 }
