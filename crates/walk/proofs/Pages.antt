@@ -6,7 +6,7 @@ use Prim.Native.Nat.{ℕ, suc, _+_, _-_, _*_, _^_, _<_, _≤_}
 use native.Mathlib.Omega.{arith}
 use native.Mathlib.Nat.{suc-mul, zero-mul, mul-le-mul-right, mul-le-mul-left}
 use lib.Dec.{leb, ltb, eqb}
-use lib.ListN.{length, drop, getD}
+use lib.ListN.{length, drop, getD, List·getD-eq-default}
 use borrow.Author.Tests.{leb-true, ltb-true}
 use Rattle.kdb.specs.Lists.{bit}
 use Rattle.kdb.specs.Pages.{recsIn, entsIn, readRecs, readEnts}
@@ -18,6 +18,10 @@ use Rattle.kdb.proofs.Words.{good-points, good-regions, points-in, regions-in}
 use Rattle.words.specs.Words.{wordAt, pointAt, Paged, RecordIn}
 use Rattle.words.proofs.Laws.{pages}
 use Rattle.walk.specs.Pages.{Fit, regionWords, pointWords, RegionPage, PointPage}
+
+-- a page past the last has no words
+pub past : (w : List ℕ) (n j : ℕ) → Paged w n → n ≤ j → wordAt w j 0 ≡ 0
+past w n j g h = List·getD-eq-default w 0 (omega (arith, g .words))
 
 -- the room that is left after one of c − e entries of d words
 pub room-next : (c e d : ℕ) → e < c → (c - e) * d ≡ (c - (e + 1)) * d + d

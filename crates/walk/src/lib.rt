@@ -9,7 +9,6 @@ use words::points_per;
 use words::put;
 use words::read;
 use words::regions_per;
-use words::word;
 ghost use mathlib.Core.Path.{_≡_};
 ghost use mathlib.Core.Bool.{Bool, true, false, _&&_, cond};
 ghost use Prim.Native.Nat.{ℕ, _+_, _*_, _-_, _≤_, _<_, _^_};
@@ -20,7 +19,7 @@ ghost use Rattle.kdb.specs.Box.{inWindow};
 ghost use Rattle.kdb.specs.Pages.{readRecs, readEnts};
 ghost use Rattle.kdb.specs.Walk.{spots, spotOf, seek, findWalk, tour, listWalk};
 ghost use Rattle.kdb.specs.Calls.{L, windowOf};
-ghost use Rattle.words.specs.Words.{wordAt, keysOf, pointLocation, RecordIn};
+ghost use Rattle.words.specs.Words.{Paged, wordAt, keysOf, pointLocation, RecordIn};
 ghost use Rattle.walk.specs.Pages.{Fit, regionWords, pointWords, RegionPage, PointPage};
 ghost use Rattle.walk.specs.Seek.{childOf, ended, told};
 ghost use Rattle.walk.specs.List.{Fair, arrived, foundIn, met, each, seen, after, walked};
@@ -48,20 +47,26 @@ fn is_page(n: usize, j: usize) -> bool
 }
 
 // Page j is a region page with a count of 1 to R.
-fn region_page(pool: &[u32], k: usize, j: usize) -> bool
-    requires { ⌜ (1 ≤ k) × ((k ≤ 4) × (j < 2 ^ 32)) ⌝ }
+fn region_page(pool: &[u32], n: usize, k: usize, j: usize) -> bool
+    requires { ⌜ Paged (now pool) n × ((1 ≤ k) × (k ≤ 4)) ⌝ }
     ensures { λ r. ⌜ r ≡ regionWords (now (pool .entry)) k j ⌝ }
 {
-    let count = word(pool, j, 1);
-    (word(pool, j, 0) == 1) & (1 <= count) & (count <= regions_per(k))
+    if n <= j {
+        return false;
+    }
+    let count = read(pool, 32 * j + 1);
+    (read(pool, 32 * j) == 1) & (1 <= count) & (count <= regions_per(k))
 }
 
 // Page j is a point page with a count within P.
-fn point_page(pool: &[u32], k: usize, j: usize) -> bool
-    requires { ⌜ (1 ≤ k) × ((k ≤ 4) × (j < 2 ^ 32)) ⌝ }
+fn point_page(pool: &[u32], n: usize, k: usize, j: usize) -> bool
+    requires { ⌜ Paged (now pool) n × ((1 ≤ k) × (k ≤ 4)) ⌝ }
     ensures { λ r. ⌜ r ≡ pointWords (now (pool .entry)) k j ⌝ }
 {
-    (word(pool, j, 0) == 2) & (word(pool, j, 1) <= points_per(k))
+    if n <= j {
+        return false;
+    }
+    (read(pool, 32 * j) == 2) & (read(pool, 32 * j + 1) <= points_per(k))
 }
 
 // The child in the first entry of page j, in page order, whose region holds the point, or 0.
@@ -106,7 +111,7 @@ fn at_points(pool: &[u32], n: usize, k: usize, point: &[u32], j: usize, reads: u
     if !is_page(n, j) {
         return Sought::Bad(reads);
     }
-    if !point_page(pool, k, j) {
+    if !point_page(pool, n, k, j) {
         return Sought::Bad(reads + 1);
     }
     record_for(pool, k, point, j, reads + 1)
@@ -124,7 +129,7 @@ fn descend(pool: &[u32], n: usize, k: usize, point: &[u32], root: usize, levels:
         if !is_page(n, j) {
             return Sought::Bad(reads);
         }
-        if !region_page(pool, k, j) {
+        if !region_page(pool, n, k, j) {
             return Sought::Bad(reads + 1);
         }
         j = child_for(pool, k, point, j);
@@ -183,14 +188,15 @@ fn arrive(n: usize, j: usize, good: bool, s: Tally) -> Tally
 
 // 1 where it holds, else 0.
 fn one(holds: bool) -> usize
-    ensures { λ r. ⌜ r ≡ bit holds ⌝ }
+    ensures { λ r. ⌜ (r ≡ bit holds) × (r ≤ 1) ⌝ }
 {
     if holds { 1 } else { 0 }
 }
 
-// The one where it holds, else the other.
+// The one word where it holds, else the other.
 fn either(holds: bool, one: usize, other: usize) -> usize
-    ensures { λ r. ⌜ r ≡ cond holds one other ⌝ }
+    requires { ⌜ (one < 2 ^ 32) × (other < 2 ^ 32) ⌝ }
+    ensures { λ r. ⌜ (r ≡ cond holds one other) × (r < 2 ^ 32) ⌝ }
 {
     if holds { one } else { other }
 }
@@ -252,7 +258,7 @@ fn list_leaf(
     requires { ⌜ Fit (now pool) n k × ((length (now window) ≡ 2 * k) × ((j < 2 ^ 32) × Fair n s)) ⌝ }
     ensures { λ r. ⌜ (seen r (now (answer .exit)) ≡ after n (seen s (now (answer .entry))) (tour L (now (pool .entry)) (windowOf k (now (window .entry))) 0 j)) × Fair n r ⌝ }
 {
-    let t = arrive(n, j, point_page(pool, k, j), s);
+    let t = arrive(n, j, point_page(pool, n, k, j), s);
     let reads = t.reads;
     let total = t.total;
     if t.bad {
@@ -326,7 +332,7 @@ fn list_page(
     requires { ⌜ Fit (now pool) n k × ((length (now window) ≡ 2 * k) × ((1 < level) × ((j < 2 ^ 32) × Fair n s))) ⌝ }
     ensures { λ r. ⌜ (seen r (now (answer .exit)) ≡ after n (seen s (now (answer .entry))) (tour L (now (pool .entry)) (windowOf k (now (window .entry))) (level - 1) j)) × Fair n r ⌝ }
 {
-    let mut t = arrive(n, j, region_page(pool, k, j), s);
+    let mut t = arrive(n, j, region_page(pool, n, k, j), s);
     if t.bad {
         return t;
     }

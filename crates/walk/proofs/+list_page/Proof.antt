@@ -44,7 +44,7 @@ abbrev list-page-μ-loop : list-page-lts.MeasureT-loop
 list-page-μ-loop pool n k window answer₀ level j t₀ child m i₀ answer t i = m - i
 
 list-page-region-page-requires : (t : ℕ) → list-page-lts.Need-region-page-requires (list-page-calls t) (list-page-at t) list-page.Post list-page-Inv-loop list-page-μ-loop
-list-page-region-page-requires t c κs = let p = c .before .before .before .pre .1 in (p .0 .least, (p .0 .few, p .1 .1 .1 .0))
+list-page-region-page-requires t c κs = let p = c .before .before .before .pre .1 in (p .0 .paged, (p .0 .least, p .0 .few))
 
 list-page-arrive-requires : (t : ℕ) → list-page-lts.Need-arrive-requires (list-page-calls t) (list-page-at t) list-page.Post list-page-Inv-loop list-page-μ-loop
 list-page-arrive-requires t c κs = let p = c .before .before .before .before .pre .1 in (p .0 .paged .most, p .1 .1 .1 .1)

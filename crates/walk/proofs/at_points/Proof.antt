@@ -14,7 +14,7 @@ returns : tie.Need-returns
 returns c = let a = c .before .before .before .before .args in last-out (a .pool .now) (a .n) (a .k) (c .before .before .before .before .pre .0) (a .point .now) (a .j) (a .reads) (sym (c .before .is-page .ensures) ∙ not-true _ (c .if1 .taken))
 
 point-page-requires : tie.Need-point-page-requires
-point-page-requires c κs = (c .before .before .before .before .pre .0 .least, (c .before .before .before .before .pre .0 .few, c .before .before .before .before .pre .1 .1 .0))
+point-page-requires c κs = let f = c .before .before .before .before .pre .0 in (f .paged, (f .least, f .few))
 
 add-t9 : tie.Need-add-t9
 add-t9 c = search needs

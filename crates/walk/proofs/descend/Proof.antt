@@ -28,7 +28,7 @@ returns : tie.Need-returns Inv-loop μ-loop
 returns c = down-out _ _ _ (c .before .before .before .before .before .before .pre .0) _ _ _ _ _ (c .before .before .before .loop .inv .2) (c .before .before .loop-test .taken) (sym (c .before .is-page .ensures) ∙ not-true _ (c .if1 .taken))
 
 region-page-requires : tie.Need-region-page-requires Inv-loop μ-loop
-region-page-requires c κs = (c .before .before .before .before .before .before .pre .0 .least, (c .before .before .before .before .before .before .pre .0 .few, c .before .before .before .loop .inv .0))
+region-page-requires c κs = let f = c .before .before .before .before .before .before .pre .0 in (f .paged, (f .least, f .few))
 
 add-t12 : tie.Need-add-t12 Inv-loop μ-loop
 add-t12 c = omega (arith, c .before .before .before .before .before .loop .inv .1, c .before .before .before .before .before .before .before .before .pre .1 .1 .1)

@@ -9,7 +9,7 @@ use Rattle.walk.proofs.list_leaf.Statement.{statement}
 use Rattle.walk.proofs.list_leaf.Tie as tie
 
 point-page-requires : tie.Need-point-page-requires
-point-page-requires c κs = (c .before .before .before .pre .0 .least, (c .before .before .before .pre .0 .few, c .before .before .before .pre .1 .1 .0))
+point-page-requires c κs = let f = c .before .before .before .pre .0 in (f .paged, (f .least, f .few))
 
 arrive-requires : tie.Need-arrive-requires
 arrive-requires c κs = (c .before .before .before .before .pre .0 .paged .most, c .before .before .before .before .pre .1 .1 .1)

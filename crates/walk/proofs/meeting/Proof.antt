@@ -5,7 +5,6 @@ use Rattle.walk.specs.List.{met}
 use Rattle.words.specs.Words.{wordAt}
 use Rattle.kdb.specs.Calls.{L, windowOf}
 use Rattle.kdb.specs.Pages.{readEnts}
-use Rattle.kdb.proofs.Lists.{bit-most}
 use lib.ListN.{length, take, drop, getD, length-set}
 use native.Mathlib.Nat.{sub-zero}
 use mathlib.Core.List.{_++_}
@@ -82,7 +81,7 @@ one-requires : tie.Need-one-requires Inv-loop μ-loop
 one-requires c κs = search needs
 
 add-m : tie.Need-add-m Inv-loop μ-loop
-add-m c = let i = c .before .before .before .before .loop .inv in omega (arith, c .one .ensures, bit-most (c .before .meets-window .result), i .0, i .2, i .4)
+add-m c = let i = c .before .before .before .before .loop .inv in omega (arith, c .one .ensures .1, i .0, i .2, i .4)
 
 mul-at-2 : tie.Need-mul-at-2 Inv-loop μ-loop
 mul-at-2 c = omega (arith, c .before .before .before .before .before .before .before .before .before .pre .1 .0 .few)
@@ -109,9 +108,9 @@ loop-again c = let a = c .before .before .before .before .before .before .before
       i .1,
       i .2,
       omega (arith, i .3),
-      omega (arith, c .one .ensures, bit-most (c .before .meets-window .result), i .4),
+      omega (arith, c .one .ensures .1, i .4),
       length-set (l .child) (l .m) (getD (a .pool .now) (l .at + 2 * a .k) 0) ∙ i .5,
-      rw (c .one .ensures, c .before .meets-window .ensures) (met-next (a .k) _ _ (a .pool .now) (windowOf (a .k) (a .window .now)) (l .at) (l .m) (l .child) _ (i .6) h (omega (arith, c .before .before .before .before .before .before .before .before .before .pre .1 .1 .1, i .2, i .4, i .5, h))),
+      rw (c .one .ensures .0, c .before .meets-window .ensures) (met-next (a .k) _ _ (a .pool .now) (windowOf (a .k) (a .window .now)) (l .at) (l .m) (l .child) _ (i .6) h (omega (arith, c .before .before .before .before .before .before .before .before .before .pre .1 .1 .1, i .2, i .4, i .5, h))),
     )
 
 same-length : tie.Need-same-length Inv-loop μ-loop

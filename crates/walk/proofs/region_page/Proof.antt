@@ -1,19 +1,45 @@
--- `walk::region_page` meets its contract: kind and count, by the words.
+-- `walk::region_page` meets its contract: kind and count, by the words; a page past the last has none.
+use Rattle.walk.proofs.Pages.{past}
+use native.Mathlib.Nat.{add-zero}
+use Prim.Native.Nat.{_*_}
 use borrow.Author.Needs.{needs}
+use native.Mathlib.Omega.{arith}
 use Rattle.walk.proofs.region_page.Statement.{statement}
 use Rattle.walk.proofs.region_page.Tie as tie
 
-word-requires : tie.Need-word-requires
-word-requires c κs = search needs
+returns : tie.Need-returns
+returns c = let a = c .before .before .args in rw (past (a .pool .now) (a .n) (a .j) (c .before .before .pre .0) (c .if1 .taken))
 
-word-requires-2 : tie.Need-word-requires-2
-word-requires-2 c κs = search needs
+mul-read : tie.Need-mul-read
+mul-read c = omega (arith, c .before .before .pre .0 .most, c .if1 .left)
+
+add-read : tie.Need-add-read
+add-read c = omega (arith, c .before .before .pre .0 .most, c .if1 .left)
+
+read-requires : tie.Need-read-requires
+read-requires c κs = omega (arith, c .before .before .pre .0 .words, c .if1 .left)
+
+mul-read-2 : tie.Need-mul-read-2
+mul-read-2 c = omega (arith, c .before .before .before .pre .0 .most, c .before .if1 .left)
+
+read-requires-2 : tie.Need-read-requires-2
+read-requires-2 c κs = omega (arith, c .before .before .before .pre .0 .words, c .before .if1 .left)
 
 regions-per-requires : tie.Need-regions-per-requires
 regions-per-requires c κs = search needs
 
-returns : tie.Need-returns
-returns c = rw (c .before .before .word .ensures .0, c .before .word2 .ensures .0, c .regions-per .ensures)
+returns-2 : tie.Need-returns-2
+returns-2 c = let a = c .before .before .before .before .before .args in rw (add-zero (32 * a .j), c .before .before .read .ensures .0, c .before .read2 .ensures .0, c .regions-per .ensures)
 
 pub region-page-spec : {M : Type 1} → statement M
-region-page-spec = tie.close (tie.spec word-requires word-requires-2 regions-per-requires returns)
+region-page-spec =
+    tie.close
+    (tie.spec
+    returns
+    mul-read
+    add-read
+    read-requires
+    mul-read-2
+    read-requires-2
+    regions-per-requires
+    returns-2)

@@ -3,9 +3,7 @@ use Rattle.walk.proofs.List.{counted, written}
 use Rattle.words.specs.Words.{keysOf, pointLocation}
 use Rattle.kdb.specs.Box.{inWindow}
 use Rattle.kdb.specs.Calls.{windowOf}
-use Rattle.kdb.proofs.Lists.{bit-most, cond-case}
 use mathlib.Core.Path.{_∙_}
-use Prim.Native.Nat.{ℕ, _<_, _^_}
 use borrow.Author.Needs.{needs}
 use native.Mathlib.Omega.{arith}
 use Rattle.walk.proofs.visit.Statement.{statement}
@@ -30,13 +28,13 @@ either-requires : tie.Need-either-requires
 either-requires c κs = search needs
 
 put-requires : tie.Need-put-requires
-put-requires c κs = rw (c .either .ensures) (cond-case (λ (x : ℕ). x < 2 ^ 32) (c .before .before .before .before .before .before .in-window .result) _ _ (c .before .before .before .before .read .ensures .1) (c .before .before .get .ensures .1))
+put-requires c κs = c .either .ensures .1
 
 one-requires : tie.Need-one-requires
 one-requires c κs = search needs
 
 add-result : tie.Need-add-result
-add-result c = omega (arith, c .one .ensures, bit-most (c .before .before .before .before .before .before .before .before .before .before .in-window .result))
+add-result c = omega (arith, c .one .ensures .1)
 
 same-length : tie.Need-same-length
 same-length c = c .before .before .before .put .kept .0
@@ -45,11 +43,11 @@ returns : tie.Need-returns
 returns c = let a = c .before .before .before .before .before .before .before .before .before .before .before .before .before .before .args in
     let h = c .before .before .before .before .before .before .before .before .before .before .in-window .ensures in
     let sees = inWindow (windowOf (a .k) (a .window .now)) (keysOf (a .k) (a .pool .now) (a .j) (a .slot)) in (
-      rw (c .one .ensures, h) (counted sees (a .total)),
+      rw (c .one .ensures .0, h) (counted sees (a .total)),
       (
         c .before .before .before .put .ensures
-            ∙ (rw (c .before .before .before .before .either .ensures, c .before .before .before .before .before .before .get .ensures .0, c .before .before .before .before .before .before .before .before .read .ensures .0, c .before .before .before .before .before .before .before .before .before .point-at .ensures .0, h) (written sees (a .answer .now) (a .total) (pointLocation (a .pool .now) (a .k) (a .j) (a .slot)))),
-        omega (arith, c .one .ensures, bit-most (c .before .before .before .before .before .before .before .before .before .before .in-window .result)),
+            ∙ (rw (c .before .before .before .before .either .ensures .0, c .before .before .before .before .before .before .get .ensures .0, c .before .before .before .before .before .before .before .before .read .ensures .0, c .before .before .before .before .before .before .before .before .before .point-at .ensures .0, h) (written sees (a .answer .now) (a .total) (pointLocation (a .pool .now) (a .k) (a .j) (a .slot)))),
+        omega (arith, c .one .ensures .1),
       ),
     )
 
