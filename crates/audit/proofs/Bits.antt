@@ -1,6 +1,6 @@
 -- No two points have the same keys: from the last to the first, with a mark for the last seven bits of each first key. A point whose bits have
 -- no mark differs from all that were met; one whose bits have a mark is held against them.
-use mathlib.Core.Bool.{Bool, true, false, _&&_, not, cond}
+use mathlib.Core.Bool.{Bool, true, false, not, cond}
 use mathlib.Core.List.{List, [], _∷_}
 use mathlib.Core.Path.{_≡_, refl, sym, ap, ap₂, _∙_, subst}
 use Prim.Native.Nat.{ℕ, zero, suc, _+_, _-_, _*_, _%_, _<_, _≤_}

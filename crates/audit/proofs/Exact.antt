@@ -1,32 +1,31 @@
 -- The audit is exact: with a good length and a good header it says yes exactly on the sound pools, `audit-iff` and `audit-is`.
-use mathlib.Core.Bool.{Bool, true, false, _&&_, not, cond}
-use mathlib.Core.List.{List, [], _∷_, _++_, map}
+use mathlib.Core.Bool.{true, false, _&&_, not}
+use mathlib.Core.List.{List, [], _∷_, map}
 use mathlib.Core.Logic.{_↔_, _⊎_, inl, inr}
-use mathlib.Core.Option.{none, some}
+use mathlib.Core.Option.{some}
 use mathlib.Core.Path.{_≡_, refl, sym, ap, _∙_, subst}
-use Prim.Native.Nat.{ℕ, zero, suc, _+_, _-_, _*_, _<_, _≤_}
+use Prim.Native.Nat.{ℕ, zero, suc, _-_, _<_, _≤_}
 use native.Mathlib.Omega.{arith}
 use lib.Dec.{T, leb, ltb, eqb, leb→le, le→leb, ltb→lt, lt→ltb, eqb→eq, T-not}
-use lib.ListN.{length, getD, set, replicate, length-map, getD-replicate, List·getD-eq-default}
+use lib.ListN.{length, getD, length-map, getD-replicate, List·getD-eq-default}
 use borrow.Author.Tests.{eq-eqb, ne-eqb, ltb-true, ltb-false, eqb-true, eqb-false}
-use Rattle.kdb.specs.Lists.{bit, every, Each, gather, many, pad, same, sum, upFrom}
+use Rattle.kdb.specs.Lists.{bit, every, Each, gather, many, sum}
 use Rattle.kdb.specs.Box.{∞, Box, whole, within, solid}
-use Rattle.kdb.specs.Tiling.{Tiles, Apart, Together}
+use Rattle.kdb.specs.Tiling.{Apart, Together}
 use Rattle.kdb.specs.Tree.{levels}
 use Rattle.kdb.specs.Pages.{Ent, Page, blank, points, regions, regionsPer, pointsPer, domain, recsIn, entsIn, boxesIn, isPoints, isRegions, inUse, printPage, readPage, page}
-use Rattle.kdb.specs.Shape.{differ, PointPage, RegionPage, Shaped, ShapedF, pointPage, regionPage}
-use Rattle.kdb.specs.Pool.{domains, rootAt, levelsAt, countAt, pagesIn, goodLength, goodHeader, view, numbers, reachedFrom, reached, Paths, Sound}
-use Rattle.kdb.specs.Print.{forest, treeAt, stateOf, sound}
+use Rattle.kdb.specs.Shape.{differ, Shaped, ShapedF}
+use Rattle.kdb.specs.Pool.{domains, rootAt, levelsAt, countAt, pagesIn, goodLength, goodHeader, view, reachedFrom, reached, Paths, Sound}
+use Rattle.kdb.specs.Print.{forest, treeAt, sound}
 use Rattle.kdb.specs.Calls as Calls
 use Rattle.words.specs.Words.{Paged}
 use Rattle.words.proofs.Laws.{pages}
-use Rattle.kdb.proofs.Lists.{and-l, and-r, and-i, bool, is-true, is-false, of-true, of-false, of-bit, to-bit, no-bit, bool-eq, many-append, same-eq, same-refl, each-map, each-two, each-every, every-each, zeros-pad, pad-zeros, every-up, up-every, sum-once}
+use Rattle.kdb.proofs.Lists.{and-l, and-r, and-i, bool, is-true, is-false, of-true, of-bit, no-bit, bool-eq, many-append, each-map, each-every, every-each, zeros-pad, pad-zeros, every-up, up-every, sum-once}
 use Rattle.kdb.proofs.Pages.{FitsPage, read-page, page-full}
 use Rattle.kdb.proofs.Views.{Under, whole-under, tiles-under, whole-finite, among}
 use Rattle.kdb.proofs.Stands.{Stands}
-use Rattle.kdb.proofs.Pool.{point-says, says-point, region-says, says-region, GoodLength, GoodHeader, length-iff, header-iff, boxes-at-page, used-number, Sound-stands, sound-iff}
-use Rattle.audit.specs.declared.Seen.{Seen}
-use Rattle.audit.specs.Walk.{Way, calm, laidOut, soundPoints, soundRegions, pageOf, walkOf, freeOf, restOf, unmarked, audited}
+use Rattle.kdb.proofs.Pool.{length-iff, header-iff, boxes-at-page, used-number, Sound-stands, sound-iff}
+use Rattle.audit.specs.Walk.{calm, walkOf, freeOf, restOf, unmarked, audited}
 use Rattle.audit.proofs.Here.{PointsHere, RegionsHere, points-say, say-points, regions-say, say-regions}
 use Rattle.audit.proofs.Marks.{Marks, done, marks-nil, Adds, adds, marks-inside, marks}
 use Rattle.audit.proofs.Walks.{case, no-recs, Shown, recsAt, pointsOn, Good, page-shows, page-runs}

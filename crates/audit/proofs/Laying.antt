@@ -1,18 +1,17 @@
 -- The layout of a page, by its words: the entries that are read print as the words that they were read from, so a page has the layout exactly
 -- if word 3 and the words behind its last entry are zero.
-use mathlib.Core.Bool.{Bool, true, false, _&&_, not}
-use mathlib.Core.List.{List, [], _∷_, _++_, map, append-assoc}
+use mathlib.Core.List.{List, [], _∷_, _++_, map}
 use mathlib.Core.Logic.{_↔_}
-use mathlib.Core.Path.{_≡_, refl, sym, ap, ap₂, _∙_, subst}
-use Prim.Native.Nat.{ℕ, zero, suc, _+_, _-_, _*_, _<_, _≤_, min}
+use mathlib.Core.Path.{_≡_, refl, sym, ap, ap₂, _∙_}
+use Prim.Native.Nat.{ℕ, zero, suc, _+_, _-_, _*_, _≤_}
 use native.Mathlib.Omega.{arith}
 use native.Mathlib.Nat.{suc-mul, zero-mul}
 use native.Mathlib.Numerals.{add-one}
 use lib.Dec.{T, eqb}
-use lib.ListN.{length, take, drop, getD, length-take, length-drop, take-append-drop}
+use lib.ListN.{length, take, drop, getD, length-drop, take-append-drop}
 use lib.Seq.{take-suc, take-add, getD-drop, drop-at, length-take-le}
 use Rattle.kdb.specs.Lists.{every, gather, pad}
-use Rattle.kdb.specs.Box.{Box, sides}
+use Rattle.kdb.specs.Box.{sides}
 use Rattle.kdb.specs.Pages.{wordsR, wordsE, layout, readRecs, readEnts}
 use Rattle.kdb.proofs.Lists.{pad-tail, zeros-pad, pad-zeros}
 

@@ -1,13 +1,12 @@
 -- The tests that code makes of one page are the audit's tests of it: `point-page-is` and `region-page-is`.
-use mathlib.Core.Bool.{Bool, true, false, _&&_, not, cond}
-use mathlib.Core.List.{List, [], _∷_, _++_, map}
+use mathlib.Core.Bool.{Bool, true, false, _&&_, not}
+use mathlib.Core.List.{List, [], _∷_, map}
 use mathlib.Core.Logic.{_↔_}
 use mathlib.Core.Path.{_≡_, refl, sym, ap, ap₂, _∙_, subst}
 use Prim.Native.Nat.{ℕ, zero, suc, _+_, _-_, _*_, _<_, _≤_}
 use native.Mathlib.Omega.{arith}
-use native.Mathlib.Nat.{suc-mul, zero-mul, zero-add, add-zero, sub-zero, div-le-self}
-use native.Mathlib.Numerals.{add-one}
-use lib.Dec.{T, leb, ltb, eqb, leb→le, le→leb, ltb→lt, lt→ltb, eqb→eq, eqb-refl}
+use native.Mathlib.Nat.{suc-mul, zero-add, add-zero, sub-zero, div-le-self}
+use lib.Dec.{T, leb, ltb, eqb, leb→le, le→leb, ltb→lt, lt→ltb, eqb→eq}
 use lib.ListN.{length, take, drop, getD, length-drop, length-map}
 use lib.Seq.{drop-drop}
 use borrow.Author.Tests.{eq-eqb, ne-eqb, lt-ltb, le-leb}
@@ -15,24 +14,24 @@ use Rattle.kdb.specs.Lists.{bit, tally, every, gather, same}
 use Rattle.kdb.specs.Box.{Box, Key, within}
 use Rattle.kdb.specs.Tiling.{tiles}
 use Rattle.kdb.specs.Tree.{Rec}
-use Rattle.kdb.specs.Pages.{Ent, Page, blank, points, regions, regionsPer, pointsPer, domain, recsIn, entsIn, boxesIn, isPoints, isRegions, wordsR, wordsE, layout, printPage, readRecs, readEnts, page}
-use Rattle.kdb.specs.Shape.{differ, PointPage, RegionPage}
-use Rattle.kdb.specs.Pool.{domains, pagesIn, view, isPage}
+use Rattle.kdb.specs.Pages.{Page, points, regions, regionsPer, pointsPer, domain, recsIn, entsIn, boxesIn, isPoints, isRegions, wordsR, wordsE, layout, printPage, readRecs, readEnts, page}
+use Rattle.kdb.specs.Shape.{differ}
+use Rattle.kdb.specs.Pool.{domains, view, isPage}
 use Rattle.kdb.specs.Calls.{L}
-use Rattle.kdb.proofs.Lists.{and-l, and-r, and-i, bool, bool-eq, is-true, of-true, and-assoc, and-true}
+use Rattle.kdb.proofs.Lists.{and-l, and-r, and-i, bool-eq, of-true}
 use Rattle.kdb.proofs.Tiling.{tiles-iff}
 use Rattle.kdb.proofs.Pages.{page-full, points-fit, regions-fit}
 use Rattle.kdb.proofs.Pages.{recs-take, ents-take, length-recs, length-ents, word-at}
-use Rattle.kdb.proofs.Words.{keysBy, keys-by, page-rest, kind, count, shape, seen}
+use Rattle.kdb.proofs.Words.{keys-by, page-rest, kind, shape, seen}
 use Rattle.words.specs.Words.{wordAt, Paged, allZero}
 use Rattle.words.proofs.Laws.{pages}
 use Rattle.words.proofs.Loops.{every-by}
 use Rattle.cover.specs.Boxes.{regionsIn}
-use Rattle.audit.specs.Tests.{keyIn, keysIn, alone, distinctOf, headOf, Held, Numbered, Listed}
+use Rattle.audit.specs.Tests.{keysIn, alone, distinctOf, headOf, Held, Numbered, Listed}
 use Rattle.audit.specs.Walk.{soundPoints, soundRegions}
-use Rattle.audit.proofs.Laying.{recs-words, ents-words, Laid, layout-iff}
+use Rattle.audit.proofs.Laying.{recs-words, ents-words, layout-iff}
 use Rattle.audit.proofs.Turns.{Room}
-use Rattle.audit.proofs.Here.{PointsHere, RegionsHere, points-say, say-points, regions-say, say-regions}
+use Rattle.audit.proofs.Here.{points-say, say-points, regions-say, say-regions}
 
 -- keys in words are the keys of the records
 keys-are : (m : ℕ) (w : List ℕ) (k a : ℕ) → a + m * (k + 1) ≤ length w → keysIn m w k a ≡ map (λ r. r .key) (readRecs k m (drop a w))

@@ -1,23 +1,22 @@
 -- The walk with marks, said without them. `page-shows`: a walk that met no bad page has shown that all it reached is good, each page once,
 -- and counted the points. `page-runs`: where that holds, the walk meets no bad page.
-use mathlib.Core.Bool.{Bool, true, false, _&&_, not, cond}
-use mathlib.Core.List.{List, [], _∷_, _++_, map}
+use mathlib.Core.Bool.{Bool, true, false, _&&_, not}
+use mathlib.Core.List.{List, [], _∷_, map}
 use mathlib.Core.Path.{_≡_, refl, sym, ap, ap₂, _∙_}
 use Prim.Native.Nat.{ℕ, zero, suc, _+_, _-_, _<_, _≤_}
 use native.Mathlib.Omega.{arith}
 use native.Mathlib.Nat.{zero-add}
-use lib.Dec.{T, ltb, eqb, ltb→lt, nltb→le, eqb→eq, T-not}
+use lib.Dec.{T, ltb, eqb, ltb→lt, eqb→eq, T-not}
 use lib.ListN.{length, getD, set}
-use borrow.Author.Tests.{ne-eqb, eq-eqb, lt-ltb, le-ltb, ltb-false, not-true, not-false}
+use borrow.Author.Tests.{ne-eqb, eq-eqb, lt-ltb, le-ltb, ltb-false}
 use Rattle.kdb.specs.Lists.{Each, gather, sum}
 use Rattle.kdb.specs.Box.{Box}
-use Rattle.kdb.specs.Pages.{Ent, Page, blank, points, regions, recsIn, entsIn, isPoints, isRegions, regionsPer, pointsPer, domain, boxesIn}
-use Rattle.kdb.specs.Shape.{pointPage, regionPage}
-use Rattle.kdb.specs.Pool.{domains, pagesIn, view, reachedFrom}
-use Rattle.kdb.proofs.Lists.{and-l, and-r, and-i, bool, is-true, is-false, of-true, sum-append}
+use Rattle.kdb.specs.Pages.{Ent, Page, blank, points, regions, recsIn, entsIn, isPoints, isRegions}
+use Rattle.kdb.specs.Pool.{pagesIn, view, reachedFrom}
+use Rattle.kdb.proofs.Lists.{and-l, and-r, is-true, is-false, of-true, sum-append}
 use Rattle.audit.specs.declared.Seen.{Seen}
-use Rattle.audit.specs.Walk.{Way, spoilt, calm, through, laidOut, soundPoints, soundRegions, fresh, leafOf, pageOf}
-use Rattle.audit.proofs.Marks.{Marks, done, next, marks-append, marks-nil, marks-split, First, first}
+use Rattle.audit.specs.Walk.{Way, calm, through, laidOut, soundPoints, soundRegions, fresh, leafOf, pageOf}
+use Rattle.audit.proofs.Marks.{Marks, done, next, marks-append, marks-nil, marks-split, first}
 
 -- by cases on a test, with its equation
 pub case {ℓ} : {C : Type ℓ} (b : Bool) → (b ≡ true → C) → (b ≡ false → C) → C
@@ -51,10 +50,6 @@ module _ (L : ℕ) (w : List ℕ) where
   abbrev pub Good : ℕ → ℕ → Box → Type 0
   Good zero j r = T (soundPoints L w j r)
   Good (suc l) j r = T (soundRegions L w j r) × Each (λ e. Good l (e .child) (e .box)) (entsIn (view L w j))
-
-  pub points-are : (j : ℕ) (r : Box) → T (soundPoints L w j r) → T (isPoints (view L w j))
-  unfolding soundPoints
-  points-are j r t = and-r (laidOut L w j) _ (and-l (laidOut L w j && isPoints (view L w j)) _ t)
 
   pub regions-are : (j : ℕ) (r : Box) → T (soundRegions L w j r) → T (isRegions (view L w j))
   unfolding soundRegions

@@ -1,20 +1,20 @@
 -- The loops over domains are the definitions' tests of regions, windows and keys.
 use mathlib.Core.Bool.{Bool, true, _&&_}
-use mathlib.Core.List.{List, []}
+use mathlib.Core.List.{List}
 use mathlib.Core.Path.{_≡_, refl, sym, ap, ap₂, _∙_}
 use Prim.Native.Nat.{ℕ, zero, suc, _+_, _*_, _≤_, max}
 use native.Mathlib.Omega.{arith}
 use native.Mathlib.Nat.{zero-add, add-zero}
 use lib.Dec.{leb, ltb, eqb}
 use lib.ListN.{length, take, drop, getD, length-drop}
-use lib.Seq.{take-all, length-take-le}
-use Rattle.kdb.specs.Lists.{same, every}
+use lib.Seq.{take-all}
+use Rattle.kdb.specs.Lists.{same}
 use Rattle.kdb.specs.Box.{sides, within, inWindow, meets}
 use Rattle.kdb.specs.Calls.{windowOf, ordered}
 use Rattle.kdb.proofs.Lists.{and-true, and-assoc}
 use Rattle.kdb.proofs.Words.{keysBy, keys-by}
 use Rattle.words.specs.Loops.{allBy}
-use Rattle.words.specs.Words.{regionAt, keysOf, RegionIn, RecordIn, pointAt, pointKey}
+use Rattle.words.specs.Words.{regionAt, keysOf, RegionIn, RecordIn, pointAt}
 use Rattle.boxes.specs.Tests.{holdsAt, meetsAt, seenAt, sameAt, orderedAt}
 
 -- a loop over m domains from d on, by the functions that give the ends and the keys

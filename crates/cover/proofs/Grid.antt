@@ -1,7 +1,6 @@
 -- Regions inside a region r, no two with a common key, together are r exactly if their volumes add up to that of r, `volumes-tile`. The
 -- keys are counted over the grid of all keys below the upper ends of r: there a region's keys are its volume, and the number of
 -- regions that hold a key is nowhere above that of r, so that equal sums make them equal at every key.
-use mathlib.Core.Bool.{Bool, true, false, _&&_}
 use mathlib.Core.List.{List, [], _∷_}
 use mathlib.Core.Path.{_≡_, refl, sym, ap, ap₂, _∙_}
 use Prim.Native.Nat.{ℕ, zero, suc, _+_, _-_, _*_, _<_, _≤_, min}
@@ -9,8 +8,8 @@ use native.Mathlib.Omega.{arith}
 use native.Mathlib.Nat.{suc-mul, zero-mul}
 use lib.Dec.{T, leb, ltb, ltb→lt, nltb→le, T-not}
 use borrow.Author.Tests.{lt-ltb, le-ltb, le-leb, lt-leb}
-use Rattle.kdb.specs.Lists.{bit, every, Each}
-use Rattle.kdb.specs.Box.{Side, Box, Key, within}
+use Rattle.kdb.specs.Lists.{bit, Each}
+use Rattle.kdb.specs.Box.{Box, Key, within}
 use Rattle.kdb.specs.Tiling.{holders}
 use Rattle.kdb.proofs.Lists.{bool, no-bit, and-false}
 use Rattle.kdb.proofs.Box.{within-e}

@@ -1,6 +1,6 @@
 -- Laws of the loops that leave at the first test that fails, and of running over regions and adding up their volumes.
-use mathlib.Core.Bool.{Bool, true, false, _&&_}
-use mathlib.Core.List.{List, [], _∷_}
+use mathlib.Core.Bool.{Bool, true, false}
+use mathlib.Core.List.{List}
 use mathlib.Core.Path.{_≡_, refl, sym, ap, _∙_}
 use Prim.Native.Nat.{ℕ, zero, suc, _+_, _-_, _*_, _^_, _/_, _%_, _<_, _≤_}
 use native.Mathlib.Omega.{arith}
@@ -8,12 +8,11 @@ use native.Mathlib.Nat.{suc-mul, add-mul, mul-assoc, mul-right-comm, mul-le-mul,
 use native.Mathlib.Numerals.{add-one}
 use lib.Dec.{T, leb, ltb, leb→le, nleb→lt, ltb→lt, nltb→le}
 use lib.ListN.{length, getD}
-use Rattle.kdb.specs.Lists.{every}
 use Rattle.kdb.specs.Box.{solid}
 use Rattle.kdb.proofs.Lists.{bool, and-l, and-r}
 use Rattle.words.specs.Loops.{allBy}
 use Rattle.words.specs.Words.{RegionIn}
-use Rattle.cover.specs.Boxes.{sidesBy, sideAt, boxAt, boxesAt, Row}
+use Rattle.cover.specs.Boxes.{sidesBy, sideAt, boxAt, Row}
 use Rattle.cover.specs.Volume.{volumeOf, value, bound, Sides}
 use Rattle.cover.specs.declared.Amount.{Amount}
 

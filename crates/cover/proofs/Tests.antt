@@ -1,8 +1,8 @@
 -- The loops of tests over words are tests of regions, and the regions in words are those of a page's view.
-use mathlib.Core.Bool.{Bool, true, false, _&&_, not}
-use mathlib.Core.List.{List, [], _∷_, map}
+use mathlib.Core.Bool.{Bool, _&&_, not}
+use mathlib.Core.List.{List, _∷_, map}
 use mathlib.Core.Path.{_≡_, refl, sym, ap, ap₂, _∙_}
-use Prim.Native.Nat.{ℕ, zero, suc, _+_, _-_, _*_, _<_, _≤_}
+use Prim.Native.Nat.{ℕ, zero, suc, _+_, _-_, _*_, _≤_}
 use native.Mathlib.Omega.{arith}
 use native.Mathlib.Nat.{suc-mul, add-zero}
 use lib.ListN.{length, take, drop, getD}
@@ -12,7 +12,7 @@ use Rattle.kdb.specs.Pages.{readEnts}
 use Rattle.kdb.proofs.Lists.{and-true, and-assoc}
 use Rattle.kdb.proofs.Words.{keysBy, keys-by}
 use Rattle.words.specs.Loops.{allBy}
-use Rattle.cover.specs.Boxes.{sidesBy, sideAt, boxAt, boxesAt, regionIn, regionsIn, sideBySide, insideOf, overlap, clearOf, fitting}
+use Rattle.cover.specs.Boxes.{sidesBy, boxAt, boxesAt, regionIn, regionsIn, sideBySide, insideOf, overlap, clearOf, fitting}
 
 pub side-loop : (f : Side → Side → Bool) (m : ℕ) (s t : ℕ → Side) (i : ℕ) (ok : Bool) → allBy m (λ n d. f (s d) (t d)) 1 i ok ≡ ok && sideBySide f (sidesBy m s i) (sidesBy m t i)
 unfolding allBy

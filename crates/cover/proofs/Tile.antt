@@ -1,8 +1,8 @@
 -- The tests of a page's entries, with the cover behind them, are the test of a tiling.
-use mathlib.Core.Bool.{Bool, true, false, _&&_, not, cond}
+use mathlib.Core.Bool.{Bool, true, false, _&&_, not}
 use mathlib.Core.List.{List, [], _∷_}
-use mathlib.Core.Path.{_≡_, refl, sym, ap, ap₂, _∙_}
-use Prim.Native.Nat.{ℕ, zero, suc, _+_, _-_, _<_, _≤_, min, max}
+use mathlib.Core.Path.{_≡_, refl, sym, ap₂, _∙_}
+use Prim.Native.Nat.{_-_, _<_, _≤_, min, max}
 use native.Mathlib.Omega.{arith}
 use lib.Dec.{T, leb, ltb, eqb, leb→le, le→leb, ltb→lt, lt→ltb, eqb→eq, T-not}
 use lib.ListN.{length}
@@ -12,7 +12,7 @@ use Rattle.kdb.specs.Box.{Side, Box, Key, within, solid}
 use Rattle.kdb.specs.Tiling.{holders, share, apart, covers, tiles}
 use Rattle.kdb.proofs.Lists.{and-l, and-r, and-i, bool, bool-eq, to-bit, of-bit, of-true, no-bit}
 use Rattle.kdb.proofs.Box.{within-i, within-e}
-use Rattle.kdb.proofs.Tiling.{low, low-in, Held, covers-says, says-covers, tiles-iff, tiles-counted, counted-tiles}
+use Rattle.kdb.proofs.Tiling.{low, low-in, covers-says, says-covers, tiles-iff, tiles-counted, counted-tiles}
 use Rattle.cover.specs.Boxes.{insideSide, insideOf, overlapSide, overlap, clearOf, fitting}
 use Rattle.cover.specs.Volume.{volumeOf, volumesOf}
 use Rattle.cover.proofs.Grid.{Under, volumes-most, volumes-each, each-volumes}

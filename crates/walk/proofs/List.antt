@@ -1,19 +1,19 @@
 -- List's walk as code makes it is the definition's: a state that goes through two tours in turn ends as after both joined, stopped at the bound.
 use mathlib.Core.Bool.{Bool, true, false, not, _&&_, cond}
-use mathlib.Core.List.{List, [], _∷_, _++_, map, append-assoc, append-nil}
+use mathlib.Core.List.{List, [], _∷_, _++_, append-assoc, append-nil}
 use mathlib.Core.Path.{_≡_, refl, sym, ap, _∙_}
-use Prim.Native.Nat.{ℕ, zero, suc, _+_, _-_, _*_, _<_, _≤_}
+use Prim.Native.Nat.{ℕ, suc, _+_, _-_, _*_, _<_, _≤_}
 use native.Mathlib.Omega.{arith}
 use native.Mathlib.Numerals.{add-one}
 use native.Mathlib.Nat.{add-zero, zero-add}
-use lib.Dec.{leb, ltb, eqb}
+use lib.Dec.{leb, ltb}
 use lib.ListN.{length, take, drop, getD, set, length-append, length-take, length-map}
 use lib.Seq.{sets, drop-cons, set-getD, take-suc-set, take-set-le}
-use borrow.Author.Tests.{lt-ltb, le-ltb, ltb-true, ltb-false, eq-eqb, ne-eqb}
+use borrow.Author.Tests.{lt-ltb, le-ltb, ltb-true, ltb-false, ne-eqb}
 use Rattle.kdb.specs.Lists.{only, bit}
 use Rattle.kdb.specs.Box.{Box, inWindow, meets}
 use Rattle.kdb.specs.Pages.{Ent, readRecs, readEnts, recsIn, entsIn}
-use Rattle.kdb.specs.Pool.{levelsAt, rootAt, pagesIn, view, isPage}
+use Rattle.kdb.specs.Pool.{levelsAt, rootAt, view, isPage}
 use Rattle.kdb.specs.Walk.{Spot, spots, Tour, still, astray, badAt, readAt, follow, through, goodPoints, goodRegions, tour, bounded, listWalk}
 use Rattle.kdb.specs.Calls.{L}
 use Rattle.kdb.proofs.Lists.{and-t, sets-append}

@@ -1,12 +1,12 @@
 -- What a walk's tests of a page's words tell of the page's view.
-use mathlib.Core.Bool.{Bool, true, false, _&&_}
+use mathlib.Core.Bool.{true, _&&_}
 use mathlib.Core.List.{List}
-use mathlib.Core.Path.{_≡_, refl, sym, ap, _∙_}
-use Prim.Native.Nat.{ℕ, suc, _+_, _-_, _*_, _^_, _<_, _≤_}
+use mathlib.Core.Path.{_≡_, sym, ap, _∙_}
+use Prim.Native.Nat.{ℕ, suc, _+_, _-_, _*_, _<_, _≤_}
 use native.Mathlib.Omega.{arith}
 use native.Mathlib.Nat.{suc-mul, zero-mul, mul-le-mul-right, mul-le-mul-left}
 use lib.Dec.{leb, ltb, eqb}
-use lib.ListN.{length, drop, getD, List·getD-eq-default}
+use lib.ListN.{drop, getD, List·getD-eq-default}
 use borrow.Author.Tests.{leb-true, ltb-true}
 use Rattle.kdb.specs.Lists.{bit}
 use Rattle.kdb.specs.Pages.{recsIn, entsIn, readRecs, readEnts}

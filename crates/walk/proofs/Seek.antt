@@ -5,15 +5,14 @@ use mathlib.Core.Path.{_≡_, refl, sym, ap, _∙_}
 use Prim.Native.Nat.{ℕ, zero, suc, _+_, _-_, _*_, _<_, _≤_}
 use native.Mathlib.Omega.{arith}
 use native.Mathlib.Numerals.{add-one}
-use native.Mathlib.Nat.{zero-add}
-use lib.Dec.{leb, ltb, eqb}
+use lib.Dec.{leb, ltb}
 use lib.ListN.{length, drop, getD}
-use borrow.Author.Tests.{eq-eqb, ne-eqb}
+use borrow.Author.Tests.{ne-eqb}
 use Rattle.kdb.specs.Lists.{same}
 use Rattle.kdb.specs.Box.{Key, within}
-use Rattle.kdb.specs.Pages.{Ent, readRecs, readEnts, entsIn, recsIn}
-use Rattle.kdb.specs.Pool.{levelsAt, rootAt, view, isPage}
-use Rattle.kdb.specs.Walk.{Search, ends, rootless, bad, goodPoints, goodRegions, spots, spotOf, into, seek, findWalk}
+use Rattle.kdb.specs.Pages.{Ent, readRecs, readEnts}
+use Rattle.kdb.specs.Pool.{levelsAt, rootAt}
+use Rattle.kdb.specs.Walk.{ends, bad, spots, spotOf, into, seek, findWalk}
 use Rattle.kdb.specs.Calls.{L}
 use Rattle.kdb.proofs.Words.{rec-turn, ent-turn}
 use Rattle.words.specs.Words.{wordAt, pointAt, pointLocation, keysOf, regionAt}

@@ -1,23 +1,23 @@
 -- The length of a pool, its header, and stores of a whole buffer, as code finds them.
-use mathlib.Core.Bool.{Bool, true, false, _&&_, _||_, not, cond}
-use mathlib.Core.List.{List, [], _∷_, _++_}
+use mathlib.Core.Bool.{Bool, true, false, _&&_, _||_, not}
+use mathlib.Core.List.{List, [], _∷_}
 use mathlib.Core.Path.{_≡_, refl, sym, ap, _∙_}
-use Prim.Native.Nat.{ℕ, zero, suc, _+_, _-_, _*_, _/_, _%_, _<_, _≤_}
+use Prim.Native.Nat.{ℕ, zero, suc, _+_, _-_, _*_, _%_, _<_, _≤_}
 use native.Mathlib.Omega.{arith}
 use native.Mathlib.Nat.{zero-add, div-le-self}
 use lib.Dec.{eqb, leb, ltb}
-use lib.ListN.{length, take, drop, getD, replicate, length-replicate}
+use lib.ListN.{length, drop, getD, replicate, length-replicate}
 use lib.Seq.{sets, take-length}
 use borrow.Author.Tests.{eqb-true, leb-true}
 use Rattle.kdb.specs.Lists.{bit, every}
 use Rattle.kdb.specs.Pages.{page}
-use Rattle.kdb.specs.Pool.{pagesIn, goodLength, goodHeader}
+use Rattle.kdb.specs.Pool.{pagesIn, goodLength}
 use Rattle.kdb.specs.Calls.{L, finite}
 use Rattle.kdb.specs.Box.{∞}
 use Rattle.kdb.proofs.Lists.{and-t, is-true, sets-whole}
-use Rattle.kdb.proofs.Words.{keysBy, keys-by, page-rest}
+use Rattle.kdb.proofs.Words.{keys-by, page-rest}
 use Rattle.words.specs.Loops.{allBy}
-use Rattle.words.specs.Words.{pageCount, Paged, allZero, zeroAt, capacityOf}
+use Rattle.words.specs.Words.{pageCount, Paged, allZero, capacityOf}
 use Rattle.words.proofs.Loops.{every-by}
 use Rattle.words.proofs.Table.{at₂}
 

@@ -1,15 +1,15 @@
 -- Laws of one turn and of the end of the loops over words: what is left to do gives what the whole gives.
 use Prim.Native.Nat.{ℕ, zero, suc, _+_, _-_, _*_, _<_, _≤_, min}
-use mathlib.Core.Bool.{Bool, true, false, _&&_}
+use mathlib.Core.Bool.{Bool, _&&_}
 use mathlib.Core.List.{List, [], _∷_}
 use mathlib.Core.Path.{_≡_, refl, sym, ap, _∙_}
 use native.Mathlib.Omega.{arith}
 use native.Mathlib.Nat.{mul-le-mul-left}
 use native.Mathlib.Numerals.{add-one}
-use lib.Dec.{eqb, leb, leb→le, nleb→lt}
+use lib.Dec.{leb, leb→le, nleb→lt}
 use lib.ListN.{length, drop, getD, set, replicate, length-drop, length-replicate, List·getD-eq-default}
 use lib.Seq.{sets, drop-cons}
-use borrow.Author.Tests.{eq-eqb, ne-eqb}
+use borrow.Author.Tests.{ne-eqb}
 use Rattle.kdb.specs.Lists.{every}
 use Rattle.kdb.proofs.Lists.{bool, and-true, and-assoc, sets-out}
 use Rattle.kdb.proofs.Words.{keysBy}

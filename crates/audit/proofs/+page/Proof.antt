@@ -1,3 +1,4 @@
+-- `audit::page` meets its contract: page j, that is to have `level` levels and the region at word b of q, and all below it.
 use Prim.Native.Nat.{_≤_, _-_, _+_, _*_}
 use mathlib.Core.Path.{_≡_, refl, sym, ap, _∙_}
 use native.Mathlib.Nat.{sub-zero}

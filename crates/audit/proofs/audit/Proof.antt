@@ -1,4 +1,5 @@
-use mathlib.Core.Path.{_≡_, sym, _∙_}
+-- `audit::audit` meets its contract: A pool of n pages with a good header is sound.
+use mathlib.Core.Path.{_∙_}
 use Rattle.audit.proofs.Exact.{audit-says, header-domains}
 use Rattle.audit.proofs.Turns.{audited-bad, audited-rest}
 use borrow.Author.Needs.{needs}

@@ -1,9 +1,10 @@
-use mathlib.Core.Path.{_≡_, sym, _∙_}
+-- `audit::check` meets its contract: the number that check answers: 1 for a pool of another length, 6 for a bad header or a pool that is
+-- not sound, 0.
+use mathlib.Core.Path.{sym, _∙_}
 use borrow.Author.Tests.{not-true, not-false}
 use Rattle.words.proofs.Laws.{count-none, count-some}
 use Rattle.audit.proofs.Turns.{check-length, check-header, check-unsound, check-sound}
 use borrow.Author.Needs.{needs}
-use native.Mathlib.Omega.{arith}
 use Rattle.audit.proofs.check.Statement.{statement}
 use Rattle.audit.proofs.check.Tie as tie
 use Rattle.audit.proofs.check.Reads as reads

@@ -1,8 +1,8 @@
-use mathlib.Core.Path.{_≡_, sym, _∙_}
+-- `audit::free` meets its contract: page j was met, or is all zero.
+use mathlib.Core.Path.{sym, _∙_}
 use Rattle.audit.proofs.OnePage.{zero-page}
 use Rattle.audit.proofs.Turns.{free-met, free-not}
 use borrow.Author.Needs.{needs}
-use native.Mathlib.Omega.{arith}
 use Rattle.audit.proofs.free.Statement.{statement}
 use Rattle.audit.proofs.free.Tie as tie
 use Rattle.audit.proofs.free.Reads as reads

@@ -1,5 +1,5 @@
+-- `audit::fresh` meets its contract: page j may be looked at: no page was bad, and j is the number of a page that was not met.
 use borrow.Author.Needs.{needs}
-use native.Mathlib.Omega.{arith}
 use Rattle.audit.proofs.fresh.Statement.{statement}
 use Rattle.audit.proofs.fresh.Tie as tie
 use Rattle.audit.proofs.fresh.Reads as reads

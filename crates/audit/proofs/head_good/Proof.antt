@@ -1,6 +1,5 @@
 -- `audit::head_good` meets its contract: the four words, each within the pool.
 use borrow.Author.Needs.{needs}
-use native.Mathlib.Omega.{arith}
 use Rattle.audit.proofs.head_good.Statement.{statement}
 use Rattle.audit.proofs.head_good.Tie as tie
 use Rattle.audit.proofs.head_good.Reads as reads

@@ -1,5 +1,5 @@
 -- `audit::leaf` meets its contract.
-use mathlib.Core.Path.{_≡_, sym, _∙_}
+use mathlib.Core.Path.{sym, _∙_}
 use borrow.Author.Tests.{not-true, not-false}
 use Rattle.audit.proofs.Turns.{leaf-bad, leaf-few, leaf-found}
 use Rattle.audit.proofs.OnePage.{points-count}

@@ -1,5 +1,5 @@
 -- `audit::point_page` meets its contract: head, tail, points in the region and different, each read within the pool.
-use mathlib.Core.Path.{_≡_, sym, _∙_}
+use mathlib.Core.Path.{sym, _∙_}
 use borrow.Author.Tests.{not-true, not-false}
 use Rattle.cover.proofs.Tests.{box-is}
 use Rattle.audit.proofs.OnePage.{points-head, points-tail, points-out, points-last, point-room}

@@ -1,5 +1,5 @@
 -- `audit::region_page` meets its contract: head, tail and tiling, each read within the pool.
-use mathlib.Core.Path.{_≡_, sym, _∙_}
+use mathlib.Core.Path.{sym, _∙_}
 use borrow.Author.Tests.{not-true, not-false}
 use Rattle.audit.proofs.OnePage.{regions-head, regions-tail, regions-last, region-room}
 use borrow.Author.Needs.{needs}

@@ -1,7 +1,7 @@
-use Prim.Native.Nat.{_≤_, _-_, _+_, _*_}
-use mathlib.Core.Path.{_≡_, sym, _∙_}
-use mathlib.Core.Bool.{true, not}
-use native.Mathlib.Nat.{sub-zero}
+-- `audit::rest` meets its contract: every page from 1 to n - 1 that was not met is all zero.
+use Prim.Native.Nat.{_≤_, _-_}
+use mathlib.Core.Path.{_≡_}
+use mathlib.Core.Bool.{true}
 use Rattle.words.specs.Loops.{allBy}
 use Rattle.words.proofs.Loops.{all-end, all-next}
 use Rattle.kdb.specs.Calls.{L}

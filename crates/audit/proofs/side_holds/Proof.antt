@@ -1,6 +1,6 @@
 -- `audit::side_holds` meets its contract: key by key, and out at the first that is not in the side.
 use Prim.Native.Nat.{_-_, _+_}
-use mathlib.Core.Path.{_≡_, refl}
+use mathlib.Core.Path.{_≡_}
 use mathlib.Core.Bool.{true}
 use native.Mathlib.Nat.{sub-zero}
 use lib.ListN.{getD}

@@ -1,4 +1,5 @@
-use mathlib.Core.Path.{_≡_, sym, _∙_}
+-- `audit::walk` meets its contract: all that the header's root names.
+use mathlib.Core.Path.{sym, _∙_}
 use Rattle.audit.proofs.Turns.{walk-none, walk-page, whole-words}
 use borrow.Author.Needs.{needs}
 use native.Mathlib.Omega.{arith}

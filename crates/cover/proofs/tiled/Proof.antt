@@ -3,7 +3,6 @@ use mathlib.Core.Path.{sym, _∙_}
 use borrow.Author.Tests.{not-true, not-false}
 use Rattle.cover.proofs.Regions.{tiles-in, tiled-no}
 use borrow.Author.Needs.{needs}
-use native.Mathlib.Omega.{arith}
 use Rattle.cover.proofs.tiled.Statement.{statement}
 use Rattle.cover.proofs.tiled.Tie as tie
 use Rattle.cover.proofs.tiled.Reads as reads

@@ -1,6 +1,5 @@
 -- `cover::volume` meets its contract: the product of the sides, which for at most four does not pass two words.
 use Prim.Native.Nat.{_-_}
-use mathlib.Core.Path.{_≡_}
 use Rattle.cover.specs.Volume.{Sides}
 use Rattle.cover.proofs.Loops.{side-some, side-small, sides-next, sides-end}
 use borrow.Author.Needs.{needs}

@@ -6,7 +6,7 @@ use Rattle.kdb.specs.Walk.{tour}
 use lib.ListN.{length, take, drop}
 use native.Mathlib.Nat.{sub-zero}
 use mathlib.Core.Path.{_≡_, refl, _∙_}
-use Prim.Native.Nat.{_+_, _-_, _≤_}
+use Prim.Native.Nat.{_-_}
 use borrow.Author.Needs.{needs}
 use native.Mathlib.Omega.{arith}
 use Rattle.walk.proofs.list_leaves.Statement.{statement}

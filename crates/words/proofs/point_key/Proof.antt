@@ -1,6 +1,5 @@
 -- `words::point_key` meets its contract: the place of a slot's key is where its record lies.
 use borrow.Author.Needs.{needs}
-use native.Mathlib.Omega.{arith}
 use Rattle.words.proofs.point_key.Statement.{statement}
 use Rattle.words.proofs.point_key.Tie as tie
 

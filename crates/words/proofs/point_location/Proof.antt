@@ -1,6 +1,5 @@
 -- `words::point_location` meets its contract: the place of a slot's location is where its record lies.
 use borrow.Author.Needs.{needs}
-use native.Mathlib.Omega.{arith}
 use Rattle.words.proofs.point_location.Statement.{statement}
 use Rattle.words.proofs.point_location.Tie as tie
 
