@@ -27,7 +27,7 @@ use Rattle.words.specs.Words.{wordAt, Paged, allZero}
 use Rattle.words.proofs.Laws.{pages}
 use Rattle.words.proofs.Loops.{every-by}
 use Rattle.cover.specs.Boxes.{regionsIn}
-use Rattle.audit.specs.Tests.{keysIn, alone, distinctOf, headOf, Held, Numbered, Listed}
+use Rattle.audit.specs.Tests.{keysIn, alone, distinctOf, headOf, Held, Numbered}
 use Rattle.audit.specs.Walk.{soundPoints, soundRegions}
 use Rattle.audit.proofs.Laying.{recs-words, ents-words, layout-iff}
 use Rattle.audit.proofs.Turns.{Room}
@@ -393,12 +393,6 @@ module _ (w : List ℕ) (n k j : ℕ) (v : List ℕ) (b : ℕ) (h : Held w n k v
         few = omega (arith, div-le-self (L - 4) (2 * k + 1));
         are = rw (q, h .domains) (sym (x .ents));
       }
-
-  pub listed-of : soundRegions L w j r ≡ true → Listed w k j
-  listed-of t = let m = entries-of (wordAt w j 1) refl t in record { room = rw (sub-zero (wordAt w j 1)) at (m .room .left); few = m .few; are = m .are }
-
-pub listed-entries : (w : List ℕ) (k j c : ℕ) → c ≡ wordAt w j 1 → Listed w k j → Room (2 * k + 1) c 0 (L * j + 4) (L * j + L) × (readEnts k c (drop (L * j + 4) w) ≡ entsIn (view L w j))
-listed-entries w k j c q m = let z = sub-zero c in (record { left = rw (z, q) (m .room) }, rw q (m .are))
 
 -- a page whose first words are good has its c entries, of k + 1 or 2 k + 1 words, within it
 pub record PointRoom (k c : ℕ) : Type 0 where

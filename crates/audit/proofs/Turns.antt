@@ -80,13 +80,6 @@ module _ (l : ℕ) (w : List ℕ) (n : ℕ) (g : Paged w n) (j : ℕ) (r : Box) 
       let e : through (λ x. pageOf L w (l - 1 - 1) (x .child) (x .box)) (entsIn (view L w j)) (calm (s .left)) (set m j 1) ≡ pageOf L w (suc (l - 1 - 1)) j r s m = rw (fresh-is true f, t) in
       e ∙ ap (λ (x : ℕ). pageOf L w x j r s m) (sym z)
 
-  -- above point pages
-  pub page-leaves : freshOf n j m s ≡ true → 1 < l → l ≤ 2 → soundRegions L w j r ≡ true
-      → through (λ e. pageOf L w 0 (e .child) (e .box)) (entsIn (view L w j)) (calm (s .left)) (set m j 1) ≡ pageOf L w (l - 1) j r s m
-  page-leaves f h g t =
-      let z : l - 1 - 1 ≡ 0 = omega arith in
-      ap (λ (x : ℕ). through (λ e. pageOf L w x (e .child) (e .box)) (entsIn (view L w j)) (calm (s .left)) (set m j 1)) (sym z) ∙ page-entries f h t
-
 module _ (w : List ℕ) (j : ℕ) (r : Box) (left : ℕ) where
   pub leaf-bad : soundPoints L w j r ≡ false → spoilt left ≡ leafOf L w j r left
   unfolding leafOf

@@ -11,7 +11,7 @@ use lib.ListN.{length, getD, set}
 use borrow.Author.Tests.{ne-eqb, eq-eqb, lt-ltb, le-ltb, ltb-false}
 use Rattle.kdb.specs.Lists.{Each, gather, sum}
 use Rattle.kdb.specs.Box.{Box}
-use Rattle.kdb.specs.Pages.{Ent, Page, blank, points, regions, recsIn, entsIn, isPoints, isRegions}
+use Rattle.kdb.specs.Pages.{Ent, Page, blank, points, regions, recsIn, entsIn, isRegions}
 use Rattle.kdb.specs.Pool.{pagesIn, view, reachedFrom}
 use Rattle.kdb.proofs.Lists.{and-l, and-r, is-true, is-false, of-true, sum-append}
 use Rattle.audit.specs.declared.Seen.{Seen}

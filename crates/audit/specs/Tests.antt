@@ -4,12 +4,10 @@ use mathlib.Core.List.{List, [], _∷_}
 use mathlib.Core.Path.{_≡_}
 use Prim.Native.Nat.{ℕ, zero, suc, _+_, _*_, _≤_, _<_, _^_}
 use lib.Dec.{leb, ltb, eqb}
-use lib.ListN.{length, drop, getD}
+use lib.ListN.{length, getD}
 use Rattle.kdb.specs.Lists.{every, same}
 use Rattle.kdb.specs.Box.{Side, Key}
-use Rattle.kdb.specs.Pages.{entsIn, readEnts}
-use Rattle.kdb.specs.Pool.{view}
-use Rattle.kdb.specs.Calls.{L}
+use Rattle.kdb.specs.Pool.{domains}
 use Rattle.kdb.proofs.Words.{keysBy}
 use Rattle.words.specs.Loops.{allBy}
 use Rattle.words.specs.Words.{wordAt, Paged}
@@ -65,9 +63,3 @@ pub record Held (w : List ℕ) (n k : ℕ) (v : List ℕ) (b : ℕ) : Type 0 whe
 pub record Numbered (n j : ℕ) : Type 0 where
   pub some : 1 ≤ j
   pub page : j < n
-
--- the entries of page j are where its count says, within it
-pub record Listed (w : List ℕ) (k j : ℕ) : Type 0 where
-  pub room : L * j + 4 + wordAt w j 1 * (2 * k + 1) ≤ L * j + L
-  pub few : wordAt w j 1 ≤ L
-  pub are : readEnts k (wordAt w j 1) (drop (L * j + 4) w) ≡ entsIn (view L w j)

@@ -19,14 +19,13 @@ ghost use lib.Dec.{T};
 ghost use lib.ListN.{length, getD, set};
 ghost use Rattle.kdb.specs.Lists.{every, same};
 ghost use Rattle.kdb.specs.Box.{within};
-ghost use Rattle.kdb.specs.Pages.{entsIn};
-ghost use Rattle.kdb.specs.Pool.{goodHeader, view};
+ghost use Rattle.kdb.specs.Pool.{goodHeader};
 ghost use Rattle.kdb.specs.Print.{sound};
 ghost use Rattle.kdb.specs.Calls.{L, Call, lent, refuses, Promise};
 ghost use Rattle.words.specs.Words.{Paged, RegionIn};
 ghost use Rattle.cover.specs.Boxes.{boxAt, regionIn, Row};
-ghost use Rattle.audit.specs.Tests.{keyIn, keysIn, columnIn, alone, distinctOf, headOf, freshOf, Held, Numbered, Listed, PointIn};
-ghost use Rattle.audit.specs.Walk.{calm, through, soundPoints, soundRegions, leafOf, pageOf, walkOf, freeOf, restOf};
+ghost use Rattle.audit.specs.Tests.{keyIn, keysIn, columnIn, alone, distinctOf, headOf, freshOf, Held, Numbered, PointIn};
+ghost use Rattle.audit.specs.Walk.{soundPoints, soundRegions, leafOf, pageOf, walkOf, freeOf, restOf};
 
 // The keys in domain d of the `count` points from word `at` on are at least lo and below hi.
 fn side_holds(p: &[u32], k: usize, at: usize, count: usize, d: usize, lo: usize, hi: usize) -> bool
@@ -203,45 +202,6 @@ fn leaf(p: &[u32], n: usize, k: usize, j: usize, q: &[u32], b: usize, left: usiz
     }
 }
 
-// Page j, that is to be a point page of the region at word b of q.
-fn point(
-    p: &[u32],
-    n: usize,
-    k: usize,
-    j: usize,
-    q: &[u32],
-    b: usize,
-    met: &mut [u32],
-    s: Seen,
-) -> Seen
-    requires { ⌜ Held (now p) n k (now q) b ⌝ }
-    ensures { λ r. ⌜ (r, now (met .exit)) ≡ pageOf L (now (p .entry)) 0 j (regionIn k (now (q .entry)) b) s (now (met .entry)) ⌝ }
-{
-    let left = s.left;
-    if !fresh(n, j, met, s) {
-        return Seen { bad: true, left };
-    }
-    put(met, j, 1);
-    leaf(p, n, k, j, q, b, left)
-}
-
-// The pages that region page j names, that are to be point pages.
-fn leaves(p: &[u32], n: usize, k: usize, j: usize, met: &mut [u32], left: usize) -> Seen
-    requires { ⌜ Held (now p) n k (now p) (32 * j + 4) × (Numbered n j × Listed (now p) k j) ⌝ }
-    ensures { λ r. ⌜ (r, now (met .exit)) ≡ through (λ x. pageOf L (now (p .entry)) 0 (x .child) (x .box)) (entsIn (view L (now (p .entry)) j)) (calm left) (now (met .entry)) ⌝ }
-{
-    let count = read(p, 32 * j + 1);
-    let mut u = Seen { bad: false, left };
-    let mut at = 32 * j + 4;
-    let mut e: usize = 0;
-    while e < count {
-        u = point(p, n, k, read(p, at + 2 * k), p, at, met, u);
-        at += 2 * k + 1;
-        e += 1;
-    }
-    u
-}
-
 // Page j, that is to have `level` levels and the region at word b of q, and all below it.
 fn page(
     p: &[u32],
@@ -267,9 +227,6 @@ fn page(
     }
     if !region_page(p, n, k, j, q, b) {
         return Seen { bad: true, left };
-    }
-    if level <= 2 {
-        return leaves(p, n, k, j, met, left);
     }
     let count = read(p, 32 * j + 1);
     let mut u = Seen { bad: false, left };

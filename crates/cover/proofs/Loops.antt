@@ -1,4 +1,4 @@
--- Laws of the loops that leave at the first test that fails, and of running over regions and adding up their volumes.
+-- Laws of the loops that leave at the first test that fails, of rows of entries, and of volumes in two words.
 use mathlib.Core.Bool.{Bool, true, false}
 use mathlib.Core.List.{List}
 use mathlib.Core.Path.{_≡_, refl, sym, ap, _∙_}

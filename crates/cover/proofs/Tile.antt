@@ -1,4 +1,4 @@
--- The tests of a page's entries, with the cover behind them, are the test of a tiling.
+-- The tests of a page's entries, with the count of their keys behind them, are the test of a tiling.
 use mathlib.Core.Bool.{Bool, true, false, _&&_, not}
 use mathlib.Core.List.{List, [], _∷_}
 use mathlib.Core.Path.{_≡_, refl, sym, ap₂, _∙_}

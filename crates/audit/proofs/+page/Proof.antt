@@ -8,8 +8,8 @@ use Rattle.kdb.specs.Calls.{L}
 use Rattle.kdb.specs.Pool.{view}
 use Rattle.kdb.specs.Pages.{entsIn, readEnts}
 use Rattle.audit.specs.Walk.{through, pageOf}
-use Rattle.audit.proofs.OnePage.{entries-of, listed-of}
-use Rattle.audit.proofs.Turns.{Room, room-here, room-next, fresh-number, entries-end, entries-next, page-bad, page-leaf, page-spoilt, page-entries, page-leaves}
+use Rattle.audit.proofs.OnePage.{entries-of}
+use Rattle.audit.proofs.Turns.{Room, room-here, room-next, fresh-number, entries-end, entries-next, page-bad, page-leaf, page-spoilt, page-entries}
 use borrow.Author.Needs.{needs}
 use native.Mathlib.Omega.{arith}
 use Prim.Native.Nat.{ℕ, _<_}
@@ -20,7 +20,6 @@ use Rattle.audit.proofs.page.Kinds as page-kinds
 use Rattle.audit.proofs.+page.Lts-page as page-lts
 use Rattle.audit.proofs.fresh.Reads as fresh-reads
 use Rattle.audit.proofs.leaf.Reads as leaf-reads
-use Rattle.audit.proofs.leaves.Reads as leaves-reads
 use Rattle.audit.proofs.region_page.Reads as region-page-reads
 use Rattle.words.proofs.put.Reads as put-reads
 use Rattle.words.proofs.read.Reads as read-reads
@@ -37,7 +36,7 @@ abbrev page-below : ℕ → In 3 page-kinds.ps
 page-below t = and 3 page-kinds.ps (falls 3 page-kinds.ps _<_ μ-page t) page.Pre
 
 abbrev page-calls : ℕ → page-lts.Claims
-page-calls t = (fresh-reads.Asked, fresh-reads.Learnt, put-reads.Asked, put-reads.Learnt, leaf-reads.Asked, leaf-reads.Learnt, region-page-reads.Asked, region-page-reads.Learnt, leaves-reads.Asked, leaves-reads.Learnt, read-reads.Asked, read-reads.Learnt, page-below t, page.Post)
+page-calls t = (fresh-reads.Asked, fresh-reads.Learnt, put-reads.Asked, put-reads.Learnt, leaf-reads.Asked, leaf-reads.Learnt, region-page-reads.Asked, region-page-reads.Learnt, read-reads.Asked, read-reads.Learnt, page-below t, page.Post)
 
 abbrev page-Inv-loop : page-lts.InvT-loop
 page-Inv-loop p n k level j q b met₀ left count u₀ at₀ e₀ met u at e = (e ≤ count) × Room (2 * k + 1) count e at (L * j + L) × (length met ≡ length met₀) × (through (λ x. pageOf L p (level - 1 - 1) (x .child) (x .box)) (readEnts k (count - e) (drop at p)) u met ≡ through (λ x. pageOf L p (level - 1 - 1) (x .child) (x .box)) (entsIn (view L p j)) u₀ met₀)
@@ -77,108 +76,93 @@ page-same-length-3 t c = search needs
 page-returns-3 : (t : ℕ) → page-lts.Need-returns-3 (page-calls t) (page-at t) page.Post page-Inv-loop page-μ-loop
 page-returns-3 t c = rw (c .before .before .before .before .before .put .ensures) (page-spoilt _ _ _ (c .before .before .before .before .before .before .before .before .before .before .before .before .before .pre .1 .pool) _ _ _ _ (sym (c .before .before .before .before .before .before .before .before .fresh .ensures) ∙ not-false _ (c .before .before .before .before .before .before .before .if1 .left)) (c .before .before .if2 .left) (sym (c .before .region-page .ensures) ∙ not-true _ (c .if3 .taken)))
 
-page-leaves-requires : (t : ℕ) → page-lts.Need-leaves-requires (page-calls t) (page-at t) page.Post page-Inv-loop page-μ-loop
-page-leaves-requires t c κs = let x = c .before .before .before .before .before .before .before .before .before .before .before .before .before .before .before .args in
-    let h = c .before .before .before .before .before .before .before .before .before .before .before .before .before .before .before .pre .1 in
-    let g = h .pool in
-    let i = fresh-number (x .n) (x .j) (x .met .now) (x .s) (sym (c .before .before .before .before .before .before .before .before .before .before .fresh .ensures) ∙ not-false _ (c .before .before .before .before .before .before .before .before .before .if1 .left)) in
-    (record { pool = g; domains = h .domains; least = h .least; most = h .most; region = omega arith; near = omega arith }, (i, listed-of _ _ _ _ _ _ h i _ (sym (c .before .before .before .region-page .ensures) ∙ not-false _ (c .before .before .if3 .left))))
-
-page-same-length-4 : (t : ℕ) → page-lts.Need-same-length-4 (page-calls t) (page-at t) page.Post page-Inv-loop page-μ-loop
-page-same-length-4 t c = search needs
-
-page-returns-4 : (t : ℕ) → page-lts.Need-returns-4 (page-calls t) (page-at t) page.Post page-Inv-loop page-μ-loop
-page-returns-4 t c = let x = c .before .before .before .before .before .before .before .before .before .before .before .before .before .before .before .before .before .before .args in
-    (rw (c .before .before .before .before .before .before .before .before .before .before .put .ensures) at (c .before .before .leaves .ensures))
-    ∙ page-leaves _ _ _ (c .before .before .before .before .before .before .before .before .before .before .before .before .before .before .before .before .before .before .pre .1 .pool) _ _ (x .s) _ (sym (c .before .before .before .before .before .before .before .before .before .before .before .before .before .fresh .ensures) ∙ not-false _ (c .before .before .before .before .before .before .before .before .before .before .before .before .if1 .left)) (c .before .before .before .before .before .before .before .if2 .left) (c .before .before .before .before .if4 .taken) (sym (c .before .before .before .before .before .before .region-page .ensures) ∙ not-false _ (c .before .before .before .before .before .if3 .left))
-
 page-mul-read : (t : ℕ) → page-lts.Need-mul-read (page-calls t) (page-at t) page.Post page-Inv-loop page-μ-loop
-page-mul-read t c = let x = c .before .before .before .before .before .before .before .before .before .before .before .before .before .before .args in
-    let g = c .before .before .before .before .before .before .before .before .before .before .before .before .before .before .pre .1 .pool in
-    let i = fresh-number (x .n) (x .j) (x .met .now) (x .s) (sym (c .before .before .before .before .before .before .before .before .before .fresh .ensures) ∙ not-false _ (c .before .before .before .before .before .before .before .before .if1 .left)) in
+page-mul-read t c = let x = c .before .before .before .before .before .before .before .before .before .before .before .before .before .args in
+    let g = c .before .before .before .before .before .before .before .before .before .before .before .before .before .pre .1 .pool in
+    let i = fresh-number (x .n) (x .j) (x .met .now) (x .s) (sym (c .before .before .before .before .before .before .before .before .fresh .ensures) ∙ not-false _ (c .before .before .before .before .before .before .before .if1 .left)) in
     omega arith
 
 page-add-read : (t : ℕ) → page-lts.Need-add-read (page-calls t) (page-at t) page.Post page-Inv-loop page-μ-loop
-page-add-read t c = let x = c .before .before .before .before .before .before .before .before .before .before .before .before .before .before .args in
-    let g = c .before .before .before .before .before .before .before .before .before .before .before .before .before .before .pre .1 .pool in
-    let i = fresh-number (x .n) (x .j) (x .met .now) (x .s) (sym (c .before .before .before .before .before .before .before .before .before .fresh .ensures) ∙ not-false _ (c .before .before .before .before .before .before .before .before .if1 .left)) in
+page-add-read t c = let x = c .before .before .before .before .before .before .before .before .before .before .before .before .before .args in
+    let g = c .before .before .before .before .before .before .before .before .before .before .before .before .before .pre .1 .pool in
+    let i = fresh-number (x .n) (x .j) (x .met .now) (x .s) (sym (c .before .before .before .before .before .before .before .before .fresh .ensures) ∙ not-false _ (c .before .before .before .before .before .before .before .if1 .left)) in
     omega arith
 
 page-read-requires : (t : ℕ) → page-lts.Need-read-requires (page-calls t) (page-at t) page.Post page-Inv-loop page-μ-loop
-page-read-requires t c κs = let x = c .before .before .before .before .before .before .before .before .before .before .before .before .before .before .args in
+page-read-requires t c κs = let x = c .before .before .before .before .before .before .before .before .before .before .before .before .before .args in
+    let g = c .before .before .before .before .before .before .before .before .before .before .before .before .before .pre .1 .pool in
+    let i = fresh-number (x .n) (x .j) (x .met .now) (x .s) (sym (c .before .before .before .before .before .before .before .before .fresh .ensures) ∙ not-false _ (c .before .before .before .before .before .before .before .if1 .left)) in
+    omega arith
+
+page-mul-at : (t : ℕ) → page-lts.Need-mul-at (page-calls t) (page-at t) page.Post page-Inv-loop page-μ-loop
+page-mul-at t c = let x = c .before .before .before .before .before .before .before .before .before .before .before .before .before .before .args in
     let g = c .before .before .before .before .before .before .before .before .before .before .before .before .before .before .pre .1 .pool in
     let i = fresh-number (x .n) (x .j) (x .met .now) (x .s) (sym (c .before .before .before .before .before .before .before .before .before .fresh .ensures) ∙ not-false _ (c .before .before .before .before .before .before .before .before .if1 .left)) in
     omega arith
 
-page-mul-at : (t : ℕ) → page-lts.Need-mul-at (page-calls t) (page-at t) page.Post page-Inv-loop page-μ-loop
-page-mul-at t c = let x = c .before .before .before .before .before .before .before .before .before .before .before .before .before .before .before .args in
-    let g = c .before .before .before .before .before .before .before .before .before .before .before .before .before .before .before .pre .1 .pool in
-    let i = fresh-number (x .n) (x .j) (x .met .now) (x .s) (sym (c .before .before .before .before .before .before .before .before .before .before .fresh .ensures) ∙ not-false _ (c .before .before .before .before .before .before .before .before .before .if1 .left)) in
-    omega arith
-
 page-add-at : (t : ℕ) → page-lts.Need-add-at (page-calls t) (page-at t) page.Post page-Inv-loop page-μ-loop
-page-add-at t c = let x = c .before .before .before .before .before .before .before .before .before .before .before .before .before .before .before .args in
-    let g = c .before .before .before .before .before .before .before .before .before .before .before .before .before .before .before .pre .1 .pool in
-    let i = fresh-number (x .n) (x .j) (x .met .now) (x .s) (sym (c .before .before .before .before .before .before .before .before .before .before .fresh .ensures) ∙ not-false _ (c .before .before .before .before .before .before .before .before .before .if1 .left)) in
+page-add-at t c = let x = c .before .before .before .before .before .before .before .before .before .before .before .before .before .before .args in
+    let g = c .before .before .before .before .before .before .before .before .before .before .before .before .before .before .pre .1 .pool in
+    let i = fresh-number (x .n) (x .j) (x .met .now) (x .s) (sym (c .before .before .before .before .before .before .before .before .before .fresh .ensures) ∙ not-false _ (c .before .before .before .before .before .before .before .before .if1 .left)) in
     omega arith
 
 page-loop-holds : (t : ℕ) → page-lts.Need-loop-holds (page-calls t) (page-at t) page.Post page-Inv-loop page-μ-loop
-page-loop-holds t c = let x = c .before .before .before .before .before .before .before .before .before .before .before .before .before .before .before .args in
-    let h = c .before .before .before .before .before .before .before .before .before .before .before .before .before .before .before .pre .1 in
-    let i = fresh-number (x .n) (x .j) (x .met .now) (x .s) (sym (c .before .before .before .before .before .before .before .before .before .before .fresh .ensures) ∙ not-false _ (c .before .before .before .before .before .before .before .before .before .if1 .left)) in
-    let m = entries-of _ _ _ _ _ _ h i _ (c .read .result) (c .read .ensures .0) (sym (c .before .before .before .region-page .ensures) ∙ not-false _ (c .before .before .if3 .left)) in
+page-loop-holds t c = let x = c .before .before .before .before .before .before .before .before .before .before .before .before .before .before .args in
+    let h = c .before .before .before .before .before .before .before .before .before .before .before .before .before .before .pre .1 in
+    let i = fresh-number (x .n) (x .j) (x .met .now) (x .s) (sym (c .before .before .before .before .before .before .before .before .before .fresh .ensures) ∙ not-false _ (c .before .before .before .before .before .before .before .before .if1 .left)) in
+    let m = entries-of _ _ _ _ _ _ h i _ (c .read .result) (c .read .ensures .0) (sym (c .before .before .region-page .ensures) ∙ not-false _ (c .before .if3 .left)) in
     (omega arith, m .room, refl, simp sub-zero (rw (m .are)))
 
 page-sub-page : (t : ℕ) → page-lts.Need-sub-page (page-calls t) (page-at t) page.Post page-Inv-loop page-μ-loop
 page-sub-page t c = search needs
 
 page-mul-read-2 : (t : ℕ) → page-lts.Need-mul-read-2 (page-calls t) (page-at t) page.Post page-Inv-loop page-μ-loop
-page-mul-read-2 t c = let x = c .before .before .before .before .before .before .before .before .before .before .before .before .before .before .before .before .before .args in
-    let h = c .before .before .before .before .before .before .before .before .before .before .before .before .before .before .before .before .before .pre .1 in
+page-mul-read-2 t c = let x = c .before .before .before .before .before .before .before .before .before .before .before .before .before .before .before .before .args in
+    let h = c .before .before .before .before .before .before .before .before .before .before .before .before .before .before .before .before .pre .1 in
     let g = h .pool in
-    let i = fresh-number (x .n) (x .j) (x .met .now) (x .s) (sym (c .before .before .before .before .before .before .before .before .before .before .before .before .fresh .ensures) ∙ not-false _ (c .before .before .before .before .before .before .before .before .before .before .before .if1 .left)) in
+    let i = fresh-number (x .n) (x .j) (x .met .now) (x .s) (sym (c .before .before .before .before .before .before .before .before .before .before .before .fresh .ensures) ∙ not-false _ (c .before .before .before .before .before .before .before .before .before .before .if1 .left)) in
     let r = room-here (2 * x .k + 1) _ _ (c .before .loop .at) (L * x .j + L) (c .before .loop .inv .1) (omega arith) in
     omega arith
 
 page-add-read-2 : (t : ℕ) → page-lts.Need-add-read-2 (page-calls t) (page-at t) page.Post page-Inv-loop page-μ-loop
-page-add-read-2 t c = let x = c .before .before .before .before .before .before .before .before .before .before .before .before .before .before .before .before .before .args in
-    let h = c .before .before .before .before .before .before .before .before .before .before .before .before .before .before .before .before .before .pre .1 in
+page-add-read-2 t c = let x = c .before .before .before .before .before .before .before .before .before .before .before .before .before .before .before .before .args in
+    let h = c .before .before .before .before .before .before .before .before .before .before .before .before .before .before .before .before .pre .1 in
     let g = h .pool in
-    let i = fresh-number (x .n) (x .j) (x .met .now) (x .s) (sym (c .before .before .before .before .before .before .before .before .before .before .before .before .fresh .ensures) ∙ not-false _ (c .before .before .before .before .before .before .before .before .before .before .before .if1 .left)) in
+    let i = fresh-number (x .n) (x .j) (x .met .now) (x .s) (sym (c .before .before .before .before .before .before .before .before .before .before .before .fresh .ensures) ∙ not-false _ (c .before .before .before .before .before .before .before .before .before .before .if1 .left)) in
     let r = room-here (2 * x .k + 1) _ _ (c .before .loop .at) (L * x .j + L) (c .before .loop .inv .1) (omega arith) in
     omega arith
 
 page-read-requires-2 : (t : ℕ) → page-lts.Need-read-requires-2 (page-calls t) (page-at t) page.Post page-Inv-loop page-μ-loop
-page-read-requires-2 t c κs = let x = c .before .before .before .before .before .before .before .before .before .before .before .before .before .before .before .before .before .args in
-    let h = c .before .before .before .before .before .before .before .before .before .before .before .before .before .before .before .before .before .pre .1 in
+page-read-requires-2 t c κs = let x = c .before .before .before .before .before .before .before .before .before .before .before .before .before .before .before .before .args in
+    let h = c .before .before .before .before .before .before .before .before .before .before .before .before .before .before .before .before .pre .1 in
     let g = h .pool in
-    let i = fresh-number (x .n) (x .j) (x .met .now) (x .s) (sym (c .before .before .before .before .before .before .before .before .before .before .before .before .fresh .ensures) ∙ not-false _ (c .before .before .before .before .before .before .before .before .before .before .before .if1 .left)) in
+    let i = fresh-number (x .n) (x .j) (x .met .now) (x .s) (sym (c .before .before .before .before .before .before .before .before .before .before .before .fresh .ensures) ∙ not-false _ (c .before .before .before .before .before .before .before .before .before .before .if1 .left)) in
     let r = room-here (2 * x .k + 1) _ _ (c .before .loop .at) (L * x .j + L) (c .before .loop .inv .1) (omega arith) in
     omega arith
 
 page-page-requires : (t : ℕ) → page-lts.Need-page-requires (page-calls t) (page-at t) page.Post page-Inv-loop page-μ-loop
-page-page-requires t c κs = let x = c .before .before .before .before .before .before .before .before .before .before .before .before .before .before .before .before .before .before .before .args in
-    let h = c .before .before .before .before .before .before .before .before .before .before .before .before .before .before .before .before .before .before .before .pre .1 in
+page-page-requires t c κs = let x = c .before .before .before .before .before .before .before .before .before .before .before .before .before .before .before .before .before .before .args in
+    let h = c .before .before .before .before .before .before .before .before .before .before .before .before .before .before .before .before .before .before .pre .1 in
     let g = h .pool in
-    let i = fresh-number (x .n) (x .j) (x .met .now) (x .s) (sym (c .before .before .before .before .before .before .before .before .before .before .before .before .before .before .fresh .ensures) ∙ not-false _ (c .before .before .before .before .before .before .before .before .before .before .before .before .before .if1 .left)) in
+    let i = fresh-number (x .n) (x .j) (x .met .now) (x .s) (sym (c .before .before .before .before .before .before .before .before .before .before .before .before .before .fresh .ensures) ∙ not-false _ (c .before .before .before .before .before .before .before .before .before .before .before .before .if1 .left)) in
     let r = room-here (2 * x .k + 1) _ _ (c .before .before .before .loop .at) (L * x .j + L) (c .before .before .before .loop .inv .1) (omega arith) in
-    let d = c .before .before .before .before .before .before .before .before .if2 .left in
-    let z = c .before .before .before .before .before .before .before .before .before .before .before .before .before .before .before .before .before .before .before .pre .0 in
+    let d = c .before .before .before .before .before .before .before .if2 .left in
+    let z = c .before .before .before .before .before .before .before .before .before .before .before .before .before .before .before .before .before .before .pre .0 in
     (omega arith, record { pool = g; domains = h .domains; least = h .least; most = h .most; region = omega arith; near = omega arith })
 
 page-mul-at-2 : (t : ℕ) → page-lts.Need-mul-at-2 (page-calls t) (page-at t) page.Post page-Inv-loop page-μ-loop
-page-mul-at-2 t c = let h = c .before .before .before .before .before .before .before .before .before .before .before .before .before .before .before .before .before .before .before .before .before .before .pre .1 in
+page-mul-at-2 t c = let h = c .before .before .before .before .before .before .before .before .before .before .before .before .before .before .before .before .before .before .before .before .before .pre .1 in
     omega arith
 
 page-add-at-2 : (t : ℕ) → page-lts.Need-add-at-2 (page-calls t) (page-at t) page.Post page-Inv-loop page-μ-loop
-page-add-at-2 t c = let h = c .before .before .before .before .before .before .before .before .before .before .before .before .before .before .before .before .before .before .before .before .before .before .pre .1 in
+page-add-at-2 t c = let h = c .before .before .before .before .before .before .before .before .before .before .before .before .before .before .before .before .before .before .before .before .before .pre .1 in
     omega arith
 
 page-add-at-3 : (t : ℕ) → page-lts.Need-add-at-3 (page-calls t) (page-at t) page.Post page-Inv-loop page-μ-loop
-page-add-at-3 t c = let x = c .before .before .before .before .before .before .before .before .before .before .before .before .before .before .before .before .before .before .before .before .before .before .args in
-    let h = c .before .before .before .before .before .before .before .before .before .before .before .before .before .before .before .before .before .before .before .before .before .before .pre .1 in
+page-add-at-3 t c = let x = c .before .before .before .before .before .before .before .before .before .before .before .before .before .before .before .before .before .before .before .before .before .args in
+    let h = c .before .before .before .before .before .before .before .before .before .before .before .before .before .before .before .before .before .before .before .before .before .pre .1 in
     let g = h .pool in
-    let i = fresh-number (x .n) (x .j) (x .met .now) (x .s) (sym (c .before .before .before .before .before .before .before .before .before .before .before .before .before .before .before .before .before .fresh .ensures) ∙ not-false _ (c .before .before .before .before .before .before .before .before .before .before .before .before .before .before .before .before .if1 .left)) in
+    let i = fresh-number (x .n) (x .j) (x .met .now) (x .s) (sym (c .before .before .before .before .before .before .before .before .before .before .before .before .before .before .before .before .fresh .ensures) ∙ not-false _ (c .before .before .before .before .before .before .before .before .before .before .before .before .before .before .before .if1 .left)) in
     let r = room-here (2 * x .k + 1) _ _ (c .before .before .before .before .before .before .loop .at) (L * x .j + L) (c .before .before .before .before .before .before .loop .inv .1) (omega (arith, c .before .before .before .before .before .loop-test .taken)) in
     omega arith
 
@@ -194,14 +178,14 @@ page-loop-again t c = let i = c .before .before .before .before .before .before 
     let e = rw (c .before .before .before .before .read2 .ensures .0) at (c .before .before .page .ensures) in
     (omega arith, room-next _ _ _ _ _ (i .1) d, c .before .before .page .kept .1 .1 .1 .1 .1 .1 .1 .0 ∙ i .2, rw (ap (λ q. q .0) e, ap (λ q. q .1) e) (entries-next _ _ _ _ _ _ _ _ _ (i .3) d))
 
-page-same-length-5 : (t : ℕ) → page-lts.Need-same-length-5 (page-calls t) (page-at t) page.Post page-Inv-loop page-μ-loop
-page-same-length-5 t c = c .before .loop .inv .2 ∙ c .before .before .before .before .before .before .before .before .before .put .kept .0
+page-same-length-4 : (t : ℕ) → page-lts.Need-same-length-4 (page-calls t) (page-at t) page.Post page-Inv-loop page-μ-loop
+page-same-length-4 t c = c .before .loop .inv .2 ∙ c .before .before .before .before .before .before .before .before .put .kept .0
 
-page-returns-5 : (t : ℕ) → page-lts.Need-returns-5 (page-calls t) (page-at t) page.Post page-Inv-loop page-μ-loop
-page-returns-5 t c = let x = c .before .before .before .before .before .before .before .before .before .before .before .before .before .before .before .before .before .args in
+page-returns-4 : (t : ℕ) → page-lts.Need-returns-4 (page-calls t) (page-at t) page.Post page-Inv-loop page-μ-loop
+page-returns-4 t c = let x = c .before .before .before .before .before .before .before .before .before .before .before .before .before .before .before .before .args in
     let l = c .before .loop in
     let v = entries-end (λ y. pageOf L (x .p .now) (x .level - 1 - 1) (y .child) (y .box)) (x .p .now) (x .k) (c .before .before .read .result) (l .e) (l .at) (l .u) (l .met) _ (l .inv .3) (c .loop-test .left) in
-    (rw (c .before .before .before .before .before .before .before .before .before .put .ensures) at v) ∙ page-entries _ _ _ (c .before .before .before .before .before .before .before .before .before .before .before .before .before .before .before .before .before .pre .1 .pool) _ _ (x .s) _ (sym (c .before .before .before .before .before .before .before .before .before .before .before .before .fresh .ensures) ∙ not-false _ (c .before .before .before .before .before .before .before .before .before .before .before .if1 .left)) (c .before .before .before .before .before .before .if2 .left) (sym (c .before .before .before .before .before .region-page .ensures) ∙ not-false _ (c .before .before .before .before .if3 .left))
+    (rw (c .before .before .before .before .before .before .before .before .put .ensures) at v) ∙ page-entries _ _ _ (c .before .before .before .before .before .before .before .before .before .before .before .before .before .before .before .before .pre .1 .pool) _ _ (x .s) _ (sym (c .before .before .before .before .before .before .before .before .before .before .before .fresh .ensures) ∙ not-false _ (c .before .before .before .before .before .before .before .before .before .before .if1 .left)) (c .before .before .before .before .before .if2 .left) (sym (c .before .before .before .before .region-page .ensures) ∙ not-false _ (c .before .before .before .if3 .left))
 
 pub +page-spec : {M : Type 1} → statement M
 +page-spec = close μ-page λ t. page-lts.spec (page-calls t)
@@ -219,9 +203,6 @@ pub +page-spec : {M : Type 1} → statement M
     (page-region-page-requires t)
     (page-same-length-3 t)
     (page-returns-3 t)
-    (page-leaves-requires t)
-    (page-same-length-4 t)
-    (page-returns-4 t)
     (page-mul-read t) (page-add-read t) (page-read-requires t)
     (page-mul-at t)
     (page-add-at t)
@@ -235,5 +216,5 @@ pub +page-spec : {M : Type 1} → statement M
     (page-add-e t)
     (page-loop-less t)
     (page-loop-again t)
-    (page-same-length-5 t)
-    (page-returns-5 t)
+    (page-same-length-4 t)
+    (page-returns-4 t)
