@@ -1,7 +1,7 @@
 -- `cover::fit` meets its contract: region by region, and out at the first that is not inside or shares a key with a later one.
 use Prim.Native.Nat.{_-_, _+_, _*_}
 use mathlib.Core.Path.{_≡_, sym, ap₂, _∙_}
-use mathlib.Core.Bool.{true}
+use mathlib.Core.Bool.{true, _&&_}
 use native.Mathlib.Nat.{sub-zero}
 use borrow.Author.Tests.{not-true, not-false}
 use Rattle.words.specs.Loops.{allBy}
