@@ -59,7 +59,7 @@ module _ (w : List ℕ) (sound : Sound L w) where
       and-i (goodLength L w) _ (sound .words) (and-i (goodHeader L w) _ (sound .header) (and-i long _ (and-l long _ h) (and-i (finite p) true (and-r long _ h) tt)))
 
 module _ (w : List ℕ) (sound : Sound L w) (rs : List Rec) (same : SameRecords (recordsOf (stateOf L w)) rs) where
-  pub list-answers : (v slots : List ℕ) → T (goodWindow (domains w) v) → ListsExactly w rs v slots
+  pub list-answers : (v slots : List ℕ) → T (goodWindow (domains w) v) → ListsExactly w rs v slots (outcome w (list v slots))
   list-answers v slots h =
       let window = windowOf (domains w) v in
       let st = Sound-stands L w sound (omega arith) in
@@ -119,10 +119,10 @@ finding-rootless : (g : Search) (b : Buffers) → g .end ≡ rootless → findin
 finding-rootless g b e = rw e
 
 module _ (w : List ℕ) (sound : Sound L w) (rs : List Rec) (same-recs : SameRecords (recordsOf (stateOf L w)) rs) (once : (p : Key) → tally (keyed p) rs ≤ 1) where
-  find-by : (p : List ℕ) (g : Search) → outcome w (find p) ≡ finding g (lent w (find p)) → Answers rs p (g .end) → FindsExactly w rs p
+  find-by : (p : List ℕ) (g : Search) → outcome w (find p) ≡ finding g (lent w (find p)) → Answers rs p (g .end) → FindsExactly rs p (outcome w (find p))
   find-by p g e a = go (g .end) refl a
     where
-      go : (n : End) → g .end ≡ n → Answers rs p n → FindsExactly w rs p
+      go : (n : End) → g .end ≡ n → Answers rs p n → FindsExactly rs p (outcome w (find p))
       go rootless q a = absurd a
       go bad q a = absurd a
       go (absent j) q a =
@@ -143,7 +143,7 @@ module _ (w : List ℕ) (sound : Sound L w) (rs : List Rec) (same-recs : SameRec
   answers-same a p (absent j) e h = sym (e (keyed p)) ∙ h
   answers-same a p (here x) e h = (h .0, record { counted = λ g t. omega (arith, h .1 .counted g t, e g) })
 
-  pub find-finds : (p : List ℕ) → T (goodPoint (domains w) p) → FindsExactly w rs p
+  pub find-finds : (p : List ℕ) → T (goodPoint (domains w) p) → FindsExactly rs p (outcome w (find p))
   find-finds p h =
       let k = domains w in
       let long = eqb (length p) k in
@@ -151,7 +151,7 @@ module _ (w : List ℕ) (sound : Sound L w) (rs : List Rec) (same-recs : SameRec
       go (stateOf L w) (Sound-stands L w sound (omega arith)) same-recs i (goes-on w (find p) (find-begins w sound p h))
     where
       go : (s : State) → Stands L w s → SameRecords (recordsOf s) rs → T (within (whole (domains w)) p)
-          → outcome w (find p) ≡ finding (findWalk L w p) (lent w (find p)) → FindsExactly w rs p
+          → outcome w (find p) ≡ finding (findWalk L w p) (lent w (find p)) → FindsExactly rs p (outcome w (find p))
       go none st e i o =
           record {
             here = λ l h. absurd (omega (arith, e (λ r. same p (r .key) && eqb l (r .loc))));

@@ -1,5 +1,5 @@
 -- Demand 2: after any calls on a sound pool the pool is sound, its records are the live ones, and list and find answer by them; from an
--- accepted format in particular; and the same of any code whose calls keep their promises. Demand 3: what a walk reads.
+-- accepted format in particular. Demand 3: what a walk reads.
 use mathlib.Core.Bool.{Bool, true, false, _&&_, not, cond}
 use mathlib.Core.List.{List, [], _∷_, _++_, map}
 use mathlib.Core.Option.{Option, none, some}
@@ -18,8 +18,8 @@ use Rattle.kdb.specs.Pool.{domains, pagesIn, goodLength, goodHeader, Sou
 use Rattle.kdb.specs.Print.{printed, stateOf, sound}
 use Rattle.kdb.specs.Walk.{Spot, End, rootless, bad, absent, here, findWalk, listWalk}
 use Rattle.kdb.specs.Calls.{L, Call, format, check, place, remove, find, list, Outcome, goodDomains, finite, present, placing, removing, stepped, outcome, windowOf, walkOf, begins, Promise}
-use Rattle.kdb.specs.History.{answerOf, run, answers, change, changed, live, Keeps}
-use Rattle.kdb.specs.Demands.{SameRecords, keyed, inside, liveAfter, Demand2, ByTheSteps, goodWindow, Shares, Demand3, Bounded}
+use Rattle.kdb.specs.History.{answerOf, change, changed, live, Keeps, over, next}
+use Rattle.kdb.specs.Demands.{SameRecords, keyed, ListsExactly, FindsExactly, Demand2, ByTheSteps, goodWindow, Shares, Demand3, Bounded}
 use Rattle.kdb.proofs.Walk.{walk-bound, walk-pages, walk-silent, list-returns, find-returns}
 use Rattle.kdb.proofs.Lists.{and-l, and-r, and-i, bool, tally-append, to-bit, no-bit, same-refl, In, is-true}
 use Rattle.kdb.proofs.Stands.{Stands}
@@ -31,7 +31,7 @@ use Rattle.kdb.proofs.Grow.{roomy-32, placed-formed, removed-formed, ke
 use Rattle.kdb.proofs.Reading.{Answers, find-rootless, find-answers, list-reads, list-once, list-count, find-reads}
 use Rattle.kdb.proofs.Windows.{good-meets, point-good, point-reads, point-path}
 use Rattle.kdb.proofs.Calls.{done, refusal-keeps, check-still, find-still, list-still}
-use Rattle.kdb.proofs.History.{without-tally, changed-same, keeps-run}
+use Rattle.kdb.proofs.History.{without-tally, changed-same}
 use Rattle.kdb.proofs.Answers.{list-begins, find-begins, list-answers, find-finds}
 
 pub big : 5 ≤ L
@@ -96,24 +96,25 @@ place-placing w work p l h =
     record { roomy = roomy-32 (domains w) (f .domains .0) (f .domains .1); formed = f; inside = passed-within w p (c .0); new = not-there w p (c .0) (c .1) }
 
 -- a done place: the step's state, well-formed and with one record more, and the pool after it
-record PlaceDone (w work p : List ℕ) (l : ℕ) : Type 0 where
-  state : State
-  is : stepped w (record { key = p; loc = l }) ≡ some state
-  pool : outcome w (place work p l) .after .pool ≡ printed L (domains w) (pagesIn L w) state
-  placed : Placed L (domains w) (pagesIn L w) (stateOf L w) state (record { key = p; loc = l })
+pub record PlaceDone (w work p : List ℕ) (l : ℕ) : Type 0 where
+  pub well : Sound L w
+  pub state : State
+  pub is : stepped w (record { key = p; loc = l }) ≡ some state
+  pub pool : outcome w (place work p l) .after .pool ≡ printed L (domains w) (pagesIn L w) state
+  pub placed : Placed L (domains w) (pagesIn L w) (stateOf L w) state (record { key = p; loc = l })
 
-place-done : (w work p : List ℕ) (l : ℕ) → outcome w (place work p l) .number ≡ 0 → PlaceDone w work p l
+pub place-done : (w work p : List ℕ) (l : ℕ) → outcome w (place work p l) .number ≡ 0 → PlaceDone w work p l
 place-done w work p l z =
     let d = done w (place work p l) z in
-    go (stepped w (record { key = p; loc = l })) refl (sym (ap (λ o. o .number) (d .1)) ∙ z) (ap (λ o. o .after .pool) (d .1)) (place-placing w work p l (d .0))
+    go (stepped w (record { key = p; loc = l })) refl (sym (ap (λ o. o .number) (d .1)) ∙ z) (ap (λ o. o .after .pool) (d .1)) (place-placing w work p l (d .0)) (place-passed w work p l (d .0) .0 .well)
   where
     go : (o : Option State) → stepped w (record { key = p; loc = l }) ≡ o → placing o w .number ≡ 0 → outcome w (place work p l) .after .pool ≡ placing o w .after .pool
-        → Placing L (domains w) (pagesIn L w) (stateOf L w) (record { key = p; loc = l }) → PlaceDone w work p l
-    go none e z q h = absurd (omega arith)
-    go (some s) e z q h = record { state = s; is = e; pool = q; placed = placed-formed L (domains w) (pagesIn L w) (stateOf L w) s (record { key = p; loc = l }) h e }
+        → Placing L (domains w) (pagesIn L w) (stateOf L w) (record { key = p; loc = l }) → Sound L w → PlaceDone w work p l
+    go none e z q h i = absurd (omega arith)
+    go (some s) e z q h i = record { well = i; state = s; is = e; pool = q; placed = placed-formed L (domains w) (pagesIn L w) (stateOf L w) s (record { key = p; loc = l }) h e }
 
 -- a done remove: its tests, the record that went, and the pool after it
-remove-steps : (w p : List ℕ) → outcome w (remove p) .number ≡ 0
+pub remove-steps : (w p : List ℕ) → outcome w (remove p) .number ≡ 0
     → Passed w p × ((x : Spot) × (findWalk L w p .end ≡ here x)) × (outcome w (remove p) .after .pool ≡ printed L (domains w) (pagesIn L w) (removed (stateOf L w) p))
 remove-steps w p z =
     let d = done w (remove p) z in
@@ -219,63 +220,41 @@ call-after w c s = go (outcome w c .number) refl
         let d = still-after w (outcome w c .after .pool) s q in
         record { sound = d .0; same = rw e (d .1) }
 
--- the live records are the pool's, and the pool stays sound, over any calls; rs holds the pool's records by counts
-run-after : (w : List ℕ) (cs : List Call) (rs : List Rec) → Sound L w → SameRecords (recordsOf (stateOf L w)) rs
-    → Sound L (run w cs) × SameRecords (recordsOf (stateOf L (run w cs))) (live rs cs (answers w cs))
-run-after w [] rs s e = (s, e)
-run-after w (c ∷ cs) rs s e =
+-- the live records are the pool's, and the pool stays sound, over any calls that keep their promises; rs holds the pool's records by counts
+keeps-after : {w v : List ℕ} {cs : List Call} {os : List Outcome} → Keeps w cs os v → (rs : List Rec) → Sound L w → SameRecords (recordsOf (stateOf L w)) rs
+    → Sound L v × SameRecords (recordsOf (stateOf L v)) (live rs cs (map answerOf os))
+keeps-after over rs s e = (s, e)
+keeps-after (next {w} {v} {c} {cs} {o} {os} p k) rs s e =
     let a = call-after w c s in
     let once : (p : Key) → tally (keyed p) (recordsOf (stateOf L w)) ≤ 1 = λ p. key-once L (domains w) (pagesIn L w) (stateOf L w) p (Sound-stands L w s big .formed) in
-    run-after (outcome w c .after .pool) cs (changed (outcome w c .number) c rs) (a .sound)
-    (λ g. a .same g ∙ changed-same (outcome w c .number) c (recordsOf (stateOf L w)) rs once e g)
+    let r = subst (λ x. Sound L (x .after .pool) × SameRecords (recordsOf (stateOf L (x .after .pool))) (changed (x .number) c rs)) (sym (p .kept))
+    (a .sound, λ g. a .same g ∙ changed-same (outcome w c .number) c (recordsOf (stateOf L w)) rs once e g) in
+    keeps-after k (changed (o .number) c rs) (r .0) (r .1)
 
--- the pool after the calls is sound and holds the records rs, which are the live ones
-demand2-of : (w : List ℕ) (cs : List Call) {rs : List Rec} → Sound L (run w cs) × SameRecords (recordsOf (stateOf L (run w cs))) rs → rs ≡ liveAfter w cs → Demand2 w cs
-demand2-of w cs r e =
-    let v = run w cs in
-    let same : SameRecords (recordsOf (stateOf L v)) (liveAfter w cs) = subst (SameRecords (recordsOf (stateOf L v))) e (r .1) in
-    let once : (p : Key) → tally (keyed p) (liveAfter w cs) ≤ 1 =
-    λ p. omega (arith, same (keyed p), key-once L (domains v) (pagesIn L v) (stateOf L v) p (Sound-stands L v (r .0) big .formed)) in
+-- a sound pool that holds the records rs, by counts
+demand2-of : (v : List ℕ) (rs : List Rec) → Sound L v × SameRecords (recordsOf (stateOf L v)) rs → Demand2 v rs
+demand2-of v rs r =
+    let once : (p : Key) → tally (keyed p) rs ≤ 1 =
+    λ p. omega (arith, r .1 (keyed p), key-once L (domains v) (pagesIn L v) (stateOf L v) p (Sound-stands L v (r .0) big .formed)) in
     record {
       sound = r .0;
-      contents = same;
+      contents = r .1;
       once = once;
-      lists = list-answers v (r .0) (liveAfter w cs) same;
-      finds = find-finds v (r .0) (liveAfter w cs) same once;
+      lists = λ win slots o h p. subst (ListsExactly v rs win slots) (sym (p .kept)) (list-answers v (r .0) rs (r .1) win slots h);
+      finds = λ p o h q. subst (FindsExactly rs p) (sym (q .kept)) (find-finds v (r .0) rs (r .1) once p h);
     }
 
--- Demand 2, from any sound pool
-pub demand2 : (w : List ℕ) (cs : List Call) → Sound L w → Demand2 w cs
-demand2 w cs s = demand2-of w cs (run-after w cs (recordsOf (stateOf L w)) s (λ g. refl)) refl
+-- Demand 2, from any sound pool, of any code whose calls keep their promises
+pub demand2 : (w v : List ℕ) (cs : List Call) (os : List Outcome) → Sound L w → Keeps w cs os v → Demand2 v (live (recordsOf (stateOf L w)) cs (map answerOf os))
+demand2 w v cs os s k = demand2-of v (live (recordsOf (stateOf L w)) cs (map answerOf os)) (keeps-after k (recordsOf (stateOf L w)) s (λ g. refl))
 
 -- from an accepted format, whatever the pool held before it
-pub demand2-format : (w : List ℕ) (k : ℕ) (cs : List Call) → outcome w (format k) .number ≡ 0 → Demand2 w (format k ∷ cs)
-demand2-format w k cs z =
-    let v = outcome w (format k) .after .pool in
-    let f = format-state w k z in
-    demand2-of w (format k ∷ cs) (run-after v cs [] (f .0) (λ g. ap (λ s. tally g (recordsOf s)) (f .1))) (ap (λ n. live (changed n (format k) (recordsOf (stateOf L w))) cs (answers v cs)) (sym z))
-
--- any code whose calls keep their promises: the pool after them is the definitions', and so are the answers
-pub demand2-code : (w v : List ℕ) (cs : List Call) (os : List Outcome) → Sound L w → Keeps w cs os v
-    → Demand2 w cs × (v ≡ run w cs) × (map answerOf os ≡ answers w cs)
-demand2-code w v cs os s k = let r = keeps-run k in (demand2 w cs s, r .0, r .1)
-
--- what such code tells of a window is the number of live records in it
-pub demand2-told : (w v : List ℕ) (cs : List Call) (os : List Outcome) → Sound L w → Keeps w cs os v
-    → (win slots : List ℕ) (o : Outcome) → Promise v (list win slots) o → T (goodWindow (domains v) win)
-    → (o .number ≡ 0) × (getD (o .values) 0 0 ≡ length (inside (domains v) win (live (recordsOf (stateOf L w)) cs (map answerOf os))))
-demand2-told w v cs os s k win slots o promise h =
-    let r = keeps-run k in
-    let told = demand2 w cs s .lists win slots (subst (λ u. T (goodWindow (domains u) win)) (r .0) h) in
-    let e : o ≡ outcome (run w cs) (list win slots) = promise .kept ∙ ap (λ u. outcome u (list win slots)) (r .0) in (
-      ap (λ x. x .number) e ∙ told .done,
-      ap (λ x. getD (x .values) 0 0) e ∙ (told .total
-          ∙ ap₂ (λ u l. length (inside (domains u) win l)) (sym (r .0)) (ap (live (recordsOf (stateOf L w)) cs) (sym (r .1)))),
-    )
-
-pub demand2-code-format : (w v : List ℕ) (k : ℕ) (cs : List Call) (os : List Outcome) → outcome w (format k) .number ≡ 0 → Keeps w (format k ∷ cs) os v
-    → Demand2 w (format k ∷ cs) × (v ≡ run w (format k ∷ cs)) × (map answerOf os ≡ answers w (format k ∷ cs))
-demand2-code-format w v k cs os z q = let r = keeps-run q in (demand2-format w k cs z, r .0, r .1)
+pub demand2-format : (w v : List ℕ) (k : ℕ) (o : Outcome) (cs : List Call) (os : List Outcome) → Promise w (format k) o → o .number ≡ 0 → Keeps (o .after .pool) cs os v
+    → Demand2 v (live [] cs (map answerOf os))
+demand2-format w v k o cs os p z q =
+    let f = format-after w k (ap (λ x. x .number) (sym (p .kept)) ∙ z) in
+    let r = subst (λ x. Sound L (x .after .pool) × SameRecords (recordsOf (stateOf L (x .after .pool))) []) (sym (p .kept)) f in
+    demand2-of v (live [] cs (map answerOf os)) (keeps-after q [] (r .0) (r .1))
 
 -- the steps are Robinson's
 pub by-the-steps : (w : List ℕ) → ByTheSteps w

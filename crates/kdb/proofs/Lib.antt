@@ -12,6 +12,7 @@ pub mod Pages
 pub mod Views
 pub mod Print
 pub mod Walk
+pub mod Bad
 pub mod Fits
 pub mod Local
 pub mod History

@@ -17,7 +17,7 @@ use Rattle.kdb.specs.Tiling.{Together, Apart}
 use Rattle.kdb.specs.Tree.{Rec, Tree, leaf, node, Forest, fnil, fcons, State, root, boxes, levels, levelsF, pages, pagesF, records, pagesOf, recordsOf}
 use Rattle.kdb.specs.Shape.{differ, PointPage, RegionPage, Shaped, ShapedF, pointPage, regionPage, shaped, shapedF, Numbered, numbered, ShapedS, shapedS, WellFormed, wellFormed}
 use Rattle.kdb.specs.Pages.{Ent, Page, blank, points, regions, regionsPer, pointsPer, domain, recsIn, entsIn, boxesIn, isPoints, isRegions, inUse, printPage, readRecs, readEnts, readPage, page}
-use Rattle.kdb.specs.Pool.{domains, rootAt, levelsAt, countAt, pagesIn, goodLength, goodHeader, view, numbers, reachedFrom, reached, Paths, Sound}
+use Rattle.kdb.specs.Pool.{domains, rootAt, levelsAt, countAt, pagesIn, goodLength, goodHeader, GoodLength, GoodHeader, view, numbers, reachedFrom, reached, Paths, Sound}
 use Rattle.kdb.specs.Print.{ents, pageOf, pageAt, header, forest, printed, treeAt, stateOf, sound}
 use Rattle.kdb.proofs.Lists.{bool, and-l, and-r, and-i, is-true, is-false, of-true, of-bit, self, to-bit, same-eq, same-refl, cond-case, every-each, each-every, each-two, zeros-pad, pad-zeros, sum-same, sum-none}
 use Rattle.kdb.proofs.Tiling.{tiles-iff}
@@ -125,21 +125,7 @@ formed-iff L k N s = (says, is)
         (says-numbered N (pagesOf s) (h .numbered)))
         (says-shape s (h .shape))
 
--- good lengths and good headers, said by numbers
-pub record GoodLength (L : ℕ) (w : List ℕ) : Type 0 where
-  pub long : length w ≡ L * pagesIn L w
-  pub least : 2 ≤ pagesIn L w
-  pub most : pagesIn L w ≤ 512
-
-pub record GoodHeader (L : ℕ) (w : List ℕ) : Type 0 where
-  pub least : 1 ≤ domains w
-  pub most : domains w ≤ 4
-  pub size : getD w 1 0 ≡ pagesIn L w
-  pub root : rootAt w < pagesIn L w
-  pub levels : levelsAt w ≤ pagesIn L w - 1
-  pub both : bit (eqb (rootAt w) 0) ≡ bit (eqb (levelsAt w) 0)
-  pub zeros : T (every (eqb 0) (drop 5 (page L w 0)))
-
+-- good lengths and good headers, sentence by sentence
 module _ (L : ℕ) (w : List ℕ) where
   pub length-iff : T (goodLength L w) ↔ GoodLength L w
   unfolding goodLength

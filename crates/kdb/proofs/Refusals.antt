@@ -1,33 +1,37 @@
 -- Demand 1: each refusal exactly in its case. A refusal of the table is given exactly if its test fails and those before it hold
 -- (`given`); what 6, 7, 8 and 9 mean follows by the laws of sound pools. And what a call leaves in its buffers.
 use mathlib.Core.Bool.{Bool, true, false, _&&_, not, cond}
-use mathlib.Core.List.{List, [], _∷_, _++_}
+use mathlib.Core.List.{List, [], _∷_, _++_, map}
 use mathlib.Core.Option.{Option, none, some}
 use mathlib.Core.Path.{_≡_, refl, sym, ap, _∙_, subst}
-use Prim.Native.Nat.{ℕ, _≤_, _<_}
+use Prim.Native.Nat.{ℕ, zero, suc, _-_, _≤_, _<_}
 use native.Mathlib.Omega.{arith}
-use lib.Dec.{T, eqb, eqb→eq, T-not}
-use lib.ListN.{length, replicate, length-append}
+use lib.Dec.{T, leb, eqb, leb→le, le→leb, eqb→eq, T-not}
+use lib.ListN.{length, take, getD, replicate, length-append, length-replicate}
 use mathlib.Core.Logic.{_↔_}
 use borrow.Author.Tests.{eq-eqb}
-use Rattle.kdb.specs.Lists.{every, tally, upFrom, same}
+use Rattle.kdb.specs.Lists.{only, every, tally, upFrom, same, lastOr}
 use Rattle.kdb.specs.Tree.{Rec, State, records, recordsOf, pagesOf}
-use Rattle.kdb.specs.Steps.{freeOf}
-use Rattle.kdb.specs.Pages.{regionsPer, pointsPer}
-use Rattle.kdb.specs.Pool.{domains, pagesIn, goodLength, goodHeader, Sound}
-use Rattle.kdb.specs.Print.{stateOf, sound}
+use Rattle.kdb.specs.Steps.{freeOf, removed}
+use Rattle.kdb.specs.Pages.{regionsPer, pointsPer, recsIn}
+use Rattle.kdb.specs.Shape.{WellFormed}
+use Rattle.kdb.specs.Pool.{domains, pagesIn, goodLength, goodHeader, GoodLength, GoodHeader, view, Sound}
+use Rattle.kdb.specs.Print.{printed, stateOf, sound}
 use Rattle.kdb.specs.Walk.{Spot, Tour, End, rootless, bad, absent, here, ends, findWalk, listWalk}
-use Rattle.kdb.specs.Calls.{L, Call, format, check, place, remove, find, list, Outcome, Buffers, Test, goodDomains, finite, ordered, windowOf, present, placing, removing, finding, listing, stepped, outcome, begins, unless, judge, _or_, lent, tests, core}
-use Rattle.kdb.specs.Demands.{keyed, goodPoint, fitting, endsOf, headed, Headed, Taken, New, Demand1, Leaves}
+use Rattle.kdb.specs.Calls.{L, Call, format, check, place, remove, find, list, Outcome, Buffers, Test, goodDomains, finite, ordered, windowOf, formatted, present, placing, removing, finding, listing, stepped, outcome, begins, walkOf, unless, judge, _or_, lent, tests, core}
+use Rattle.kdb.specs.Bad.{findStops, listStops}
+use Rattle.kdb.specs.Demands.{keyed, goodPoint, fitting, endsOf, headed, Headed, Taken, New, lastRecords, Demand1, Formatted, SameSize, Leaves}
 use Rattle.kdb.proofs.Lists.{and-l, and-r, and-i, same-refl, In, is-true, of-true, tally-imp, length-upFrom}
 use Rattle.kdb.proofs.Stands.{Stands}
-use Rattle.kdb.proofs.Pool.{sound-iff, Sound-stands}
-use Rattle.kdb.proofs.Grow.{roomy-32, key-once, Placing, claims, placed-none-iff}
+use Rattle.kdb.proofs.Pool.{length-iff, header-iff, sound-iff, Sound-stands}
+use Rattle.kdb.proofs.Print.{print-length, print-word}
+use Rattle.kdb.proofs.Bad.{find-six, find-eight, find-done, find-located, list-six, list-done}
+use Rattle.kdb.proofs.Grow.{roomy-32, removed-formed, key-once, Placing, claims, placed-none-iff}
 use Rattle.kdb.proofs.Wanting.{ample, wanting}
 use Rattle.kdb.proofs.Reading.{Answers, find-rootless, find-answers}
-use Rattle.kdb.proofs.Calls.{done, goes-on, judge-both, judge-past, refusal-keeps}
+use Rattle.kdb.proofs.Calls.{done, goes-on, judge-both, judge-past, refusal-keeps, check-still, find-still, list-still}
 use Rattle.kdb.proofs.Answers.{one-located}
-use Rattle.kdb.proofs.Demands.{big, Passed, passed-within, place-placing}
+use Rattle.kdb.proofs.Demands.{big, Passed, passed-within, place-placing, PlaceDone, place-done, remove-steps}
 
 -- no test of these gives refusal n
 abbrev avoids : ℕ → List Test → Bool
@@ -271,17 +275,17 @@ module _ (w : List ℕ) where
   three : (c : Call) → T (headed c) → Headed w → (outcome w c .number ≡ 3) ↔ (T (fitting w c) → ⊥)
   three c y h =
       row c y ((goodLength L w or 1) ∷ (goodHeader L w or 6) ∷ []) ((finite (endsOf c) or 4) ∷ later c) (fitting w c or 3) refl
-      (and-i (goodLength L w) _ (h .long) (and-i (goodHeader L w) true (h .header) tt)) (later-avoids c .1) (core-number w c 3 (omega arith) (omega arith))
+      (and-i (goodLength L w) _ (length-iff L w .1 (h .long)) (and-i (goodHeader L w) true (header-iff L w .1 (h .header)) tt)) (later-avoids c .1) (core-number w c 3 (omega arith) (omega arith))
 
   four : (c : Call) → T (headed c) → Headed w → T (fitting w c) → (outcome w c .number ≡ 4) ↔ (T (finite (endsOf c)) → ⊥)
   four c y h f =
       row c y ((goodLength L w or 1) ∷ (goodHeader L w or 6) ∷ (fitting w c or 3) ∷ []) (later c) (finite (endsOf c) or 4) refl
-      (and-i (goodLength L w) _ (h .long) (and-i (goodHeader L w) _ (h .header) (and-i (fitting w c) true f tt))) (later-avoids c .2) (core-number w c 4 (omega arith) (omega arith))
+      (and-i (goodLength L w) _ (length-iff L w .1 (h .long)) (and-i (goodHeader L w) _ (header-iff L w .1 (h .header)) (and-i (fitting w c) true f tt))) (later-avoids c .2) (core-number w c 4 (omega arith) (omega arith))
 
   -- the four first rows hold
   four-held : (c : Call) → Taken w c → T (every (λ u. u .holds) ((goodLength L w or 1) ∷ (goodHeader L w or 6) ∷ (fitting w c or 3) ∷ (finite (endsOf c) or 4) ∷ []))
   four-held c h =
-      and-i (goodLength L w) _ (h .headed .long) (and-i (goodHeader L w) _ (h .headed .header) (and-i (fitting w c) _ (h .fits) (and-i (finite (endsOf c)) true (h .ends) tt)))
+      and-i (goodLength L w) _ (length-iff L w .1 (h .headed .long)) (and-i (goodHeader L w) _ (header-iff L w .1 (h .headed .header)) (and-i (fitting w c) _ (h .fits) (and-i (finite (endsOf c)) true (h .ends) tt)))
 
   five : (v answer : List ℕ) → Taken w (list v answer) → (outcome w (list v answer) .number ≡ 5) ↔ (T (ordered (windowOf (domains w) v)) → ⊥)
   five v answer h =
@@ -332,17 +336,74 @@ module _ (w : List ℕ) where
       let f = Sound-stands L w (n .sound) big .formed in
       record { roomy = roomy-32 (domains w) (f .domains .0) (f .domains .1); formed = f; inside = passed-within w p (good-passed w p (n .sound) (n .point)); new = n .absent }
 
+-- find and list on any pool, once their arguments are taken
+module _ (w : List ℕ) where
+  find-taken : (p : List ℕ) → Taken w (find p) → T (begins w (find p))
+  find-taken p h = four-held w (find p) h
+
+  list-taken : (v answer : List ℕ) → Taken w (list v answer) → T (ordered (windowOf (domains w) v)) → T (begins w (list v answer))
+  list-taken v answer h o =
+      and-i (goodLength L w) _ (length-iff L w .1 (h .headed .long)) (and-i (goodHeader L w) _ (header-iff L w .1 (h .headed .header))
+      (and-i (fitting w (list v answer)) _ (h .fits) (and-i (finite v) _ (h .ends) (and-i (ordered (windowOf (domains w) v)) true o tt))))
+
+  find-is : (p : List ℕ) → T (begins w (find p)) → outcome w (find p) ≡ finding (findWalk L w p) (lent w (find p))
+  find-is p h = goes-on w (find p) h
+
+  -- the pages read are those of the walk
+  find-walked : (p : List ℕ) → T (begins w (find p)) → findWalk L w p .read ≡ walkOf w (find p)
+  find-walked p h = ap (λ b. cond b (findWalk L w p .read) []) (sym (is-true (begins w (find p)) h))
+
+  six-find : (p : List ℕ) → Taken w (find p) → (outcome w (find p) .number ≡ 6) ↔ T (findStops L w p)
+  six-find p h = subst (λ o. (o .number ≡ 6) ↔ T (findStops L w p)) (sym (find-is p (find-taken p h))) (find-six w p (lent w (find p)))
+
+  eight-find : (p : List ℕ) → Taken w (find p) → (outcome w (find p) .number ≡ 8) ↔ (T (not (findStops L w p)) × (tally (keyed p) (lastRecords w p) ≡ 0))
+  eight-find p h =
+      subst (λ o. (o .number ≡ 8) ↔ (T (not (findStops L w p)) × (tally (keyed p) (lastRecords w p) ≡ 0))) (sym (find-is p (find-taken p h)))
+      (subst (λ l. (finding (findWalk L w p) (lent w (find p)) .number ≡ 8) ↔ (T (not (findStops L w p)) × (tally (keyed p) (recsIn (view L w (lastOr 0 l))) ≡ 0)))
+      (find-walked p (find-taken p h)) (find-eight w p (lent w (find p))))
+
+  done-find : (p : List ℕ) → Taken w (find p) → (outcome w (find p) .number ≡ 0) ↔ (T (not (findStops L w p)) × (1 ≤ tally (keyed p) (lastRecords w p)))
+  done-find p h =
+      subst (λ o. (o .number ≡ 0) ↔ (T (not (findStops L w p)) × (1 ≤ tally (keyed p) (lastRecords w p)))) (sym (find-is p (find-taken p h)))
+      (subst (λ l. (finding (findWalk L w p) (lent w (find p)) .number ≡ 0) ↔ (T (not (findStops L w p)) × (1 ≤ tally (keyed p) (recsIn (view L w (lastOr 0 l))))))
+      (find-walked p (find-taken p h)) (find-done w p (lent w (find p))))
+
+  located : (p : List ℕ) → outcome w (find p) .number ≡ 0
+      → outcome w (find p) .values ≡ map (λ r. r .loc) (take 1 (only (keyed p) (lastRecords w p))) ++ (length (walkOf w (find p)) ∷ [])
+  located p z =
+      let d = done w (find p) z in
+      ap (λ o. o .values) (d .1)
+      ∙ subst (λ l. finding (findWalk L w p) (lent w (find p)) .values ≡ map (λ r. r .loc) (take 1 (only (keyed p) (recsIn (view L w (lastOr 0 l))))) ++ (length l ∷ []))
+      (find-walked p (d .0)) (find-located w p (lent w (find p)) (sym (ap (λ o. o .number) (d .1)) ∙ z))
+
+  six-list : (v answer : List ℕ) → Taken w (list v answer) → T (ordered (windowOf (domains w) v))
+      → (outcome w (list v answer) .number ≡ 6) ↔ T (listStops L w (windowOf (domains w) v))
+  six-list v answer h o =
+      subst (λ x. (x .number ≡ 6) ↔ T (listStops L w (windowOf (domains w) v))) (sym (goes-on w (list v answer) (list-taken v answer h o))) (list-six w (windowOf (domains w) v) answer)
+
+  done-list : (v answer : List ℕ) → Taken w (list v answer) → T (ordered (windowOf (domains w) v))
+      → (outcome w (list v answer) .number ≡ 0) ↔ T (not (listStops L w (windowOf (domains w) v)))
+  done-list v answer h o =
+      subst (λ x. (x .number ≡ 0) ↔ T (not (listStops L w (windowOf (domains w) v)))) (sym (goes-on w (list v answer) (list-taken v answer h o))) (list-done w (windowOf (domains w) v) answer)
+
+-- not the one exactly if not the other
+not-alike : {A B C : Type 0} → B ↔ C → A ↔ (B → ⊥) → A ↔ (C → ⊥)
+not-alike i j = (λ a c. j .0 a (i .1 c), λ n. j .1 (λ b. n (i .0 b)))
+
+domains-iff : (k : ℕ) → T (goodDomains k) ↔ ((1 ≤ k) × (k ≤ 4))
+domains-iff k = (λ t. (leb→le 1 k (and-l (leb 1 k) _ t), leb→le k 4 (and-r (leb 1 k) _ t)), λ h. and-i (leb 1 k) _ (le→leb 1 k (h .0)) (le→leb k 4 (h .1)))
+
 pub demand1 : (w : List ℕ) → Demand1 w
 demand1 w =
     record {
-      one = one w;
-      two = two w;
-      formats = λ k h d. ap (λ o. o .number) (goes-on w (format k) (and-i (goodLength L w) _ h (and-i (goodDomains k) true d tt)));
-      header = header w;
+      one = λ c. not-alike (length-iff L w) (one w c);
+      two = λ k h. not-alike (domains-iff k) (two w k (length-iff L w .1 h));
+      formats = λ k h a b. ap (λ o. o .number) (goes-on w (format k) (and-i (goodLength L w) _ (length-iff L w .1 h) (and-i (goodDomains k) true (domains-iff k .1 (a, b)) tt)));
+      header = λ c y h n. header w c y (length-iff L w .1 h) (λ t. n (header-iff L w .0 t));
       three = three w;
       four = four w;
       five = five w;
-      six = check-six w;
+      six = λ h. check-six w (length-iff L w .1 h);
       checks = λ s. ap (λ o. o .number) (goes-on w check (and-i (goodLength L w) _ (s .words) (and-i (goodHeader L w) _ (s .header) (and-i (sound L w) true (sound-iff L big w .1 s) tt))));
       sixPlace = six-place w;
       sixRemove = six-remove w;
@@ -365,7 +426,66 @@ demand1 w =
           let r = wanting L (domains w) (pagesIn L w) (stateOf L w) (record { key = p; loc = l }) (free ++ upFrom m (pagesIn L w)) (new-placed w work p l n)
           (omega (arith, length-append free (upFrom m (pagesIn L w)), length-upFrom m (pagesIn L w))) in
           (m, r .0, r .1);
+      sixFind = six-find w;
+      eightFind = eight-find w;
+      finds = done-find w;
+      located = located w;
+      sixList = six-list w;
+      lists = done-list w;
     }
+
+-- a formatted pool, word by word
+no-words : (n i : ℕ) → _≡_ {A = ℕ} (getD (replicate n 0) i 0) 0
+no-words zero i = refl
+no-words (suc n) zero = refl
+no-words (suc n) (suc i) = no-words n i
+
+formatted-is : (w : List ℕ) (k : ℕ) → outcome w (format k) .number ≡ 0 → Formatted w k (outcome w (format k) .after .pool)
+formatted-is w k z =
+    let d = done w (format k) z in
+    let g = length-iff L w .0 (and-l (goodLength L w) _ (d .0)) in
+    subst (Formatted w k) (sym (ap (λ o. o .after .pool) (d .1)))
+    (record { long = omega (arith, length-replicate {A = ℕ} (length w - 2) 0, g .long, g .least); domains = refl; pages = sym (g .long); zeros = later })
+  where
+    later : (i : ℕ) → 2 ≤ i → getD (formatted w k) i 0 ≡ 0
+    later zero h = absurd (omega arith)
+    later (suc zero) h = absurd (omega arith)
+    later (suc (suc i)) h = no-words (length w - 2) i
+
+-- the size after a call
+kept-size : (w v : List ℕ) → v ≡ w → SameSize w v
+kept-size w v e = record { long = ap length e; domains = ap (λ u. getD u 0 0) e; pages = ap (λ u. getD u 1 0) e }
+
+printed-size : (w v : List ℕ) (s : State) → GoodLength L w → GoodHeader L w → WellFormed L (domains w) (pagesIn L w) s → v ≡ printed L (domains w) (pagesIn L w) s → SameSize w v
+printed-size w v s g h f e =
+    let k = domains w in
+    let N = pagesIn L w in
+    record {
+      long = ap length e ∙ (print-length L k N s big f ∙ sym (g .long));
+      domains = ap (λ u. getD u 0 0) e ∙ print-word L k N s big f 0 (omega arith);
+      pages = ap (λ u. getD u 1 0) e ∙ (print-word L k N s big f 1 (omega arith) ∙ sym (h .size));
+    }
+
+call-size : (w : List ℕ) (c : Call) → T (headed c) → SameSize w (outcome w c .after .pool)
+call-size w c y = go (outcome w c .number) refl
+  where
+    done-size : (c : Call) → T (headed c) → outcome w c .number ≡ 0 → SameSize w (outcome w c .after .pool)
+    done-size (format k) y z = absurd y
+    done-size check y z = kept-size w (outcome w check .after .pool) (check-still w .still)
+    done-size (place work p l) y z =
+        let h = place-done w work p l z in
+        printed-size w (outcome w (place work p l) .after .pool) (h .state) (length-iff L w .0 (h .well .words)) (header-iff L w .0 (h .well .header)) (h .placed .formed) (h .pool)
+    done-size (remove p) y z =
+        let h = remove-steps w p z in
+        let s = h .0 .well in
+        let f = removed-formed L (domains w) (pagesIn L w) (stateOf L w) p (Sound-stands L w s big .formed) in
+        printed-size w (outcome w (remove p) .after .pool) (removed (stateOf L w) p) (length-iff L w .0 (s .words)) (header-iff L w .0 (s .header)) (f .formed) (h .2)
+    done-size (find p) y z = kept-size w (outcome w (find p) .after .pool) (find-still w p .still)
+    done-size (list v a) y z = kept-size w (outcome w (list v a) .after .pool) (list-still w v a .still)
+
+    go : (n : ℕ) → outcome w c .number ≡ n → SameSize w (outcome w c .after .pool)
+    go zero e = done-size c y e
+    go (suc n) e = kept-size w (outcome w c .after .pool) (refusal-keeps w c .kept (λ z. omega arith))
 
 -- the buffers after a call
 placing-work : (w work : List ℕ) (o : Option State) → (placing o w .number ≡ 0 → ⊥) → (placing o w .number ≡ 9 → ⊥) → placing o w .after .work ≡ work
@@ -397,6 +517,8 @@ pub leaves : (w : List ℕ) → Leaves w
 unfolding outcome
 leaves w =
     record {
+      formats = formatted-is w;
+      sizes = call-size w;
       pool = λ c n. refusal-keeps w c .kept n;
       done = λ work p l z. ap (λ o. o .after .work) (done w (place work p l) z .1) ∙ placing-copy w (stepped w (record { key = p; loc = l }));
       short = λ work p l z.

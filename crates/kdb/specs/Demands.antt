@@ -1,7 +1,7 @@
 -- The three demands as statements, each with a field for each thing it says. `outcome` in Calls.antt is a function of every input and fixes
 -- every word; here stands what its numbers, its buffers and its walks mean, in document 01's words. Proofs: Refusals (demand 1), Demands
 -- (2 and 3) and Local in proofs/.
-use mathlib.Core.Bool.{Bool, true, false, _&&_}
+use mathlib.Core.Bool.{Bool, true, false, _&&_, not}
 use mathlib.Core.List.{List, [], _∷_, _++_, map}
 use mathlib.Core.Logic.{_↔_}
 use mathlib.Core.Option.{Option, none, some}
@@ -9,16 +9,16 @@ use mathlib.Core.Path.{_≡_}
 use Prim.Native.Nat.{ℕ, _*_, _-_, _≤_, _<_}
 use lib.Dec.{T, eqb}
 use lib.ListN.{length, take, drop, getD, replicate}
-use Rattle.kdb.specs.Lists.{only, tally, many, upFrom, same}
+use Rattle.kdb.specs.Lists.{only, tally, many, upFrom, same, lastOr}
 use Rattle.kdb.specs.Box.{Box, Key, within, inWindow, meets}
 use Rattle.kdb.specs.Tree.{Rec, State, recordsOf, pagesOf}
 use Rattle.kdb.specs.Steps.{freeOf, placedOn, removed}
-use Rattle.kdb.specs.Pages.{page, regionsPer, pointsPer}
-use Rattle.kdb.specs.Pool.{domains, levelsAt, pagesIn, goodLength, goodHeader, numbers, Sound, ownRegion}
+use Rattle.kdb.specs.Pages.{page, regionsPer, pointsPer, recsIn}
+use Rattle.kdb.specs.Pool.{domains, levelsAt, pagesIn, GoodLength, GoodHeader, view, numbers, Sound, ownRegion}
 use Rattle.kdb.specs.Print.{printed, stateOf}
 use Rattle.kdb.specs.Walk.{listWalk}
-use Rattle.kdb.specs.Calls.{L, Call, format, check, place, remove, find, list, Outcome, goodDomains, finite, windowOf, ordered, stepped, outcome, begins, walkOf}
-use Rattle.kdb.specs.History.{run, answers, live}
+use Rattle.kdb.specs.Bad.{findStops, listStops}
+use Rattle.kdb.specs.Calls.{L, Call, format, check, place, remove, find, list, Outcome, finite, windowOf, ordered, stepped, outcome, begins, walkOf, Promise}
 
 -- the same records, each as often: equal counts for every test
 abbrev pub SameRecords : List Rec → List Rec → Type 0
@@ -43,19 +43,19 @@ goodPoint k p = eqb (length p) k && finite p
 abbrev pub foundBy : List ℕ → List ℕ → List Rec
 foundBy w v = map (λ x. x .rec) (listWalk L w (windowOf (domains w) v) .found)
 
--- list on pool w finds exactly those of the records rs that lie in the window, edges counted, each once, whatever the slots
-pub record ListsExactly (w : List ℕ) (rs : List Rec) (v slots : List ℕ) : Type 0 where
-  pub done : outcome w (list v slots) .number ≡ 0
+-- o, the outcome of a list on pool w, tells exactly those of the records rs that lie in the window, edges counted, each once
+pub record ListsExactly (w : List ℕ) (rs : List Rec) (v slots : List ℕ) (o : Outcome) : Type 0 where
+  pub done : o .number ≡ 0
   pub exact : SameRecords (foundBy w v) (inside (domains w) v rs)
-  pub total : getD (outcome w (list v slots) .values) 0 0 ≡ length (inside (domains w) v rs)
+  pub total : getD (o .values) 0 0 ≡ length (inside (domains w) v rs)
   -- with slots enough the first take the locations in walk order and later slots are unchanged; with too few all take the first locations
-  pub enough : length (foundBy w v) ≤ length slots → outcome w (list v slots) .after .answer ≡ map (λ r. r .loc) (foundBy w v) ++ drop (length (foundBy w v)) slots
-  pub few : length slots ≤ length (foundBy w v) → outcome w (list v slots) .after .answer ≡ take (length slots) (map (λ r. r .loc) (foundBy w v))
+  pub enough : length (foundBy w v) ≤ length slots → o .after .answer ≡ map (λ r. r .loc) (foundBy w v) ++ drop (length (foundBy w v)) slots
+  pub few : length slots ≤ length (foundBy w v) → o .after .answer ≡ take (length slots) (map (λ r. r .loc) (foundBy w v))
 
--- find on pool w answers 0 with the location of the record of rs that has the point's keys, or 8 if there is none
-pub record FindsExactly (w : List ℕ) (rs : List Rec) (p : List ℕ) : Type 0 where
-  pub here : (l : ℕ) → 1 ≤ tally (λ r. same p (r .key) && eqb l (r .loc)) rs → (outcome w (find p) .number ≡ 0) × (getD (outcome w (find p) .values) 0 0 ≡ l)
-  pub absent : tally (keyed p) rs ≡ 0 → outcome w (find p) .number ≡ 8
+-- o, the outcome of a find, is 0 with the location of the record of rs that has the point's keys, or 8 if there is none
+pub record FindsExactly (rs : List Rec) (p : List ℕ) (o : Outcome) : Type 0 where
+  pub here : (l : ℕ) → 1 ≤ tally (λ r. same p (r .key) && eqb l (r .loc)) rs → (o .number ≡ 0) × (getD (o .values) 0 0 ≡ l)
+  pub absent : tally (keyed p) rs ≡ 0 → o .number ≡ 8
 
 -- what a call is lent beside the pool has the right length: a point K words, a window 2K, the work buffer as many as the pool
 abbrev pub fitting : List ℕ → Call → Bool
@@ -86,8 +86,8 @@ headed (list v answer) = true
 
 -- length and header of the pool are right: neither 1 nor the header's 6
 pub record Headed (w : List ℕ) : Type 0 where
-  pub long : T (goodLength L w)
-  pub header : T (goodHeader L w)
+  pub long : GoodLength L w
+  pub header : GoodHeader L w
 
 -- and so are the lengths of what the call is lent, and its keys: nor 3, nor 4
 pub record Taken (w : List ℕ) (c : Call) : Type 0 where
@@ -102,17 +102,21 @@ pub record New (w work p : List ℕ) : Type 0 where
   pub long : length work ≡ length w
   pub absent : tally (keyed p) (recordsOf (stateOf L w)) ≡ 0
 
+-- the records of the point page in which find's walk ended: the last page on its list
+abbrev pub lastRecords : List ℕ → List ℕ → List Rec
+lastRecords w p = recsIn (view L w (lastOr 0 (walkOf w (find p))))
+
 -- Demand 1: each refusal exactly in its case, where no earlier one is given; else the call is done
 pub record Demand1 (w : List ℕ) : Type 0 where
-  pub one : (c : Call) → (outcome w c .number ≡ 1) ↔ (T (goodLength L w) → ⊥)
-  pub two : (k : ℕ) → T (goodLength L w) → (outcome w (format k) .number ≡ 2) ↔ (T (goodDomains k) → ⊥)
-  pub formats : (k : ℕ) → T (goodLength L w) → T (goodDomains k) → outcome w (format k) .number ≡ 0
-  pub header : (c : Call) → T (headed c) → T (goodLength L w) → (T (goodHeader L w) → ⊥) → outcome w c .number ≡ 6
+  pub one : (c : Call) → (outcome w c .number ≡ 1) ↔ (GoodLength L w → ⊥)
+  pub two : (k : ℕ) → GoodLength L w → (outcome w (format k) .number ≡ 2) ↔ ((1 ≤ k) × (k ≤ 4) → ⊥)
+  pub formats : (k : ℕ) → GoodLength L w → 1 ≤ k → k ≤ 4 → outcome w (format k) .number ≡ 0
+  pub header : (c : Call) → T (headed c) → GoodLength L w → (GoodHeader L w → ⊥) → outcome w c .number ≡ 6
   pub three : (c : Call) → T (headed c) → Headed w → (outcome w c .number ≡ 3) ↔ (T (fitting w c) → ⊥)
   pub four : (c : Call) → T (headed c) → Headed w → T (fitting w c) → (outcome w c .number ≡ 4) ↔ (T (finite (endsOf c)) → ⊥)
   pub five : (v answer : List ℕ) → Taken w (list v answer) → (outcome w (list v answer) .number ≡ 5) ↔ (T (ordered (windowOf (domains w) v)) → ⊥)
   -- 6 exactly if the pool is not sound
-  pub six : T (goodLength L w) → (outcome w check .number ≡ 6) ↔ (Sound L w → ⊥)
+  pub six : GoodLength L w → (outcome w check .number ≡ 6) ↔ (Sound L w → ⊥)
   pub checks : Sound L w → outcome w check .number ≡ 0
   pub sixPlace : (work p : List ℕ) (l : ℕ) → Taken w (place work p l) → (outcome w (place work p l) .number ≡ 6) ↔ (Sound L w → ⊥)
   pub sixRemove : (p : List ℕ) → Taken w (remove p) → (outcome w (remove p) .number ≡ 6) ↔ (Sound L w → ⊥)
@@ -129,11 +133,39 @@ pub record Demand1 (w : List ℕ) : Type 0 where
   pub wanting : (work p : List ℕ) (l : ℕ) → New w work p
       → (m : ℕ) × (s : State) × (placedOn (domains w) (regionsPer L (domains w)) (pointsPer L (domains w)) (stateOf L w) (record { key = p; loc = l })
       (freeOf (pagesIn L w) (pagesOf (stateOf L w)) ++ upFrom m (pagesIn L w)) ≡ some s)
+  -- find's own 6 exactly if its walk meets a bad page; else 8 exactly if no record of the last page read has the point's keys, and 0 with
+  -- the location of the first that has them
+  pub sixFind : (p : List ℕ) → Taken w (find p) → (outcome w (find p) .number ≡ 6) ↔ T (findStops L w p)
+  pub eightFind : (p : List ℕ) → Taken w (find p) → (outcome w (find p) .number ≡ 8) ↔ (T (not (findStops L w p)) × (tally (keyed p) (lastRecords w p) ≡ 0))
+  pub finds : (p : List ℕ) → Taken w (find p) → (outcome w (find p) .number ≡ 0) ↔ (T (not (findStops L w p)) × (1 ≤ tally (keyed p) (lastRecords w p)))
+  pub located : (p : List ℕ) → outcome w (find p) .number ≡ 0
+      → outcome w (find p) .values ≡ map (λ r. r .loc) (take 1 (only (keyed p) (lastRecords w p))) ++ (length (walkOf w (find p)) ∷ [])
+  -- list's own 6 exactly if its walk meets a bad page or its bound, else 0
+  pub sixList : (v answer : List ℕ) → Taken w (list v answer) → T (ordered (windowOf (domains w) v))
+      → (outcome w (list v answer) .number ≡ 6) ↔ T (listStops L w (windowOf (domains w) v))
+  pub lists : (v answer : List ℕ) → Taken w (list v answer) → T (ordered (windowOf (domains w) v))
+      → (outcome w (list v answer) .number ≡ 0) ↔ T (not (listStops L w (windowOf (domains w) v)))
 
--- What a call leaves in the buffers: the pool is unchanged after every refusal; after 0 and 9 place's work buffer is the pool before the
+-- what an accepted format leaves: K and N in words 0 and 1, and zeros
+pub record Formatted (w : List ℕ) (k : ℕ) (v : List ℕ) : Type 0 where
+  pub long : length v ≡ length w
+  pub domains : getD v 0 0 ≡ k
+  pub pages : L * getD v 1 0 ≡ length w
+  pub zeros : (i : ℕ) → 2 ≤ i → getD v i 0 ≡ 0
+
+-- the same K, the same N, the same length
+pub record SameSize (w v : List ℕ) : Type 0 where
+  pub long : length v ≡ length w
+  pub domains : getD v 0 0 ≡ getD w 0 0
+  pub pages : getD v 1 0 ≡ getD w 1 0
+
+-- What a call leaves in the buffers: an accepted format the empty index of its K and of as many pages as the pool has, which other calls keep
+-- so; the pool is unchanged after every refusal; after 0 and 9 place's work buffer is the pool before the
 -- call, after other refusals it is unchanged; where list's walk meets a bad page every slot is 0, after other refusals the slots are
 -- unchanged
 pub record Leaves (w : List ℕ) : Type 0 where
+  pub formats : (k : ℕ) → outcome w (format k) .number ≡ 0 → Formatted w k (outcome w (format k) .after .pool)
+  pub sizes : (c : Call) → T (headed c) → SameSize w (outcome w c .after .pool)
   pub pool : (c : Call) → (outcome w c .number ≡ 0 → ⊥) → outcome w c .after .pool ≡ w
   pub done : (work p : List ℕ) (l : ℕ) → outcome w (place work p l) .number ≡ 0 → outcome w (place work p l) .after .work ≡ w
   pub short : (work p : List ℕ) (l : ℕ) → outcome w (place work p l) .number ≡ 9 → outcome w (place work p l) .after .work ≡ w
@@ -143,17 +175,14 @@ pub record Leaves (w : List ℕ) : Type 0 where
   pub bad : (v answer : List ℕ) → T (begins w (list v answer)) → (outcome w (list v answer) .number ≡ 0 → ⊥)
       → outcome w (list v answer) .after .answer ≡ replicate (length answer) 0
 
--- the live records after the calls, from those in the pool before them, the calls, and their answers
-abbrev pub liveAfter : List ℕ → List Call → List Rec
-liveAfter w cs = live (recordsOf (stateOf L w)) cs (answers w cs)
-
--- Demand 2: after the calls the pool is a K-D-B-tree by Robinson's section 2, and a window lists exactly the live records in it
-pub record Demand2 (w : List ℕ) (cs : List Call) : Type 0 where
-  pub sound : Sound L (run w cs)
-  pub contents : SameRecords (recordsOf (stateOf L (run w cs))) (liveAfter w cs)
-  pub once : (p : Key) → tally (keyed p) (liveAfter w cs) ≤ 1
-  pub lists : (v slots : List ℕ) → T (goodWindow (domains (run w cs)) v) → ListsExactly (run w cs) (liveAfter w cs) v slots
-  pub finds : (p : List ℕ) → T (goodPoint (domains (run w cs)) p) → FindsExactly (run w cs) (liveAfter w cs) p
+-- Demand 2: v, the pool after any calls, is a K-D-B-tree by Robinson's section 2; rs, the records live by the calls and what they answered,
+-- are those in it, each once; and a list or a find that keeps its promise tells exactly them
+pub record Demand2 (v : List ℕ) (rs : List Rec) : Type 0 where
+  pub sound : Sound L v
+  pub contents : SameRecords (recordsOf (stateOf L v)) rs
+  pub once : (p : Key) → tally (keyed p) rs ≤ 1
+  pub lists : (win slots : List ℕ) (o : Outcome) → T (goodWindow (domains v) win) → Promise v (list win slots) o → ListsExactly v rs win slots o
+  pub finds : (p : List ℕ) (o : Outcome) → T (goodPoint (domains v) p) → Promise v (find p) o → FindsExactly rs p o
 
 -- the tree is built by Robinson's steps: a format leaves no tree, and an accepted place or remove takes the state to the step's state and
 -- the pool to its printed form

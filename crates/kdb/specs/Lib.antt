@@ -9,6 +9,7 @@ pub mod Shape
 pub mod Pool
 pub mod Print
 pub mod Walk
+pub mod Bad
 pub mod Calls
 pub mod History
 pub mod Frames

@@ -47,6 +47,11 @@ sum (a ∷ l) = a + sum l
 abbrev pub many : ℕ → List ℕ → ℕ
 many y l = tally (eqb y) l
 
+-- the last number, d where there is none
+abbrev pub lastOr : ℕ → List ℕ → ℕ
+lastOr d [] = d
+lastOr d (a ∷ l) = lastOr a l
+
 -- n numbers from c on
 abbrev pub upFrom : ℕ → ℕ → List ℕ
 upFrom zero c = []

@@ -5,7 +5,7 @@ use mathlib.Core.List.{List, [], _∷_, map}
 use mathlib.Core.Option.{Option, none, some}
 use mathlib.Core.Path.{_≡_}
 use mathlib.Core.Logic.{_↔_}
-use Prim.Native.Nat.{ℕ, zero, suc, _-_, _/_, _%_, _≤_, _<_}
+use Prim.Native.Nat.{ℕ, zero, suc, _-_, _*_, _/_, _%_, _≤_, _<_}
 use lib.Dec.{T, leb, ltb, eqb}
 use lib.ListN.{length, drop, getD}
 use Rattle.kdb.specs.Lists.{bit, every, Each, gather, sum, many, upFrom}
@@ -46,6 +46,21 @@ module _ (L : ℕ) where
   goodHeader w =
       leb 1 (domains w) && leb (domains w) 4 && eqb (getD w 1 0) (pagesIn w) && ltb (rootAt w) (pagesIn w) && leb (levelsAt w) (pagesIn w - 1)
       && eqb (bit (eqb (rootAt w) 0)) (bit (eqb (levelsAt w) 0)) && every (eqb 0) (drop 5 (page L w 0))
+
+  -- the same, sentence by sentence
+  pub record GoodLength (w : List ℕ) : Type 0 where
+    pub long : length w ≡ L * pagesIn w
+    pub least : 2 ≤ pagesIn w
+    pub most : pagesIn w ≤ 512
+
+  pub record GoodHeader (w : List ℕ) : Type 0 where
+    pub least : 1 ≤ domains w
+    pub most : domains w ≤ 4
+    pub size : getD w 1 0 ≡ pagesIn w
+    pub root : rootAt w < pagesIn w
+    pub levels : levelsAt w ≤ pagesIn w - 1
+    pub both : bit (eqb (rootAt w) 0) ≡ bit (eqb (levelsAt w) 0)
+    pub zeros : T (every (eqb 0) (drop 5 (page L w 0)))
 
   -- j is a number from 1 to N − 1
   abbrev pub isPage : List ℕ → ℕ → Bool
