@@ -22,6 +22,7 @@ pub mod Refusals
 pub mod Pool
 pub mod Format
 pub mod Frames
+pub mod Client
 pub mod Reading
 pub mod Own
 pub mod Windows

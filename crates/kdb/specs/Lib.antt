@@ -13,4 +13,5 @@ pub mod Bad
 pub mod Calls
 pub mod History
 pub mod Frames
+pub mod Client
 pub mod Demands
