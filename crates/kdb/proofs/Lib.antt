@@ -2,6 +2,7 @@ pub mod Lists
 pub mod Box
 pub mod Tiling
 pub mod Cut
+pub mod Ranks
 pub mod Split
 pub mod Fair
 pub mod Grow

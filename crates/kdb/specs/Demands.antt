@@ -6,12 +6,13 @@ use mathlib.Core.List.{List, [], _∷_, _++_, map}
 use mathlib.Core.Logic.{_↔_}
 use mathlib.Core.Option.{Option, none, some}
 use mathlib.Core.Path.{_≡_}
-use Prim.Native.Nat.{ℕ, _*_, _-_, _≤_, _<_}
-use lib.Dec.{T, eqb}
+use Prim.Native.Nat.{ℕ, _+_, _*_, _-_, _/_, _%_, _≤_, _<_}
+use lib.Dec.{T, ltb, eqb}
 use lib.ListN.{length, take, drop, getD, replicate}
 use Rattle.kdb.specs.Lists.{only, tally, many, upFrom, same, lastOr}
-use Rattle.kdb.specs.Box.{Box, Key, within, inWindow, meets}
+use Rattle.kdb.specs.Box.{Box, Key, within, inWindow, meets, keyAt, lowerAt}
 use Rattle.kdb.specs.Tree.{Rec, State, recordsOf, pagesOf}
+use Rattle.kdb.specs.Cut.{cut, cutPoints, cutRegions}
 use Rattle.kdb.specs.Steps.{freeOf, placedOn, removed}
 use Rattle.kdb.specs.Pages.{page, regionsPer, pointsPer, recsIn}
 use Rattle.kdb.specs.Pool.{domains, levelsAt, pagesIn, GoodLength, GoodHeader, view, numbers, Sound, ownRegion}
@@ -195,6 +196,35 @@ pub record ByTheSteps (w : List ℕ) : Type 0 where
   pub removes : (p : List ℕ) → outcome w (remove p) .number ≡ 0
       → (outcome w (remove p) .after .pool ≡ printed L (domains w) (pagesIn L w) (removed (stateOf L w) p))
       × (stateOf L (outcome w (remove p) .after .pool) ≡ removed (stateOf L w) p)
+
+-- x has rank r among the numbers, counted from 0: no more than r are smaller, and those equal to it fill the place
+pub record Ranks (l : List ℕ) (r x : ℕ) : Type 0 where
+  pub smaller : tally (λ a. ltb a x) l ≤ r
+  pub equal : r < tally (λ a. ltb a x) l + many x l
+
+-- a cut by counting: the key of rank n div 2 or, where none is smaller than that, the next greater
+pub record CutsAt (l : List ℕ) (x : ℕ) : Type 0 where
+  pub ranked : ℕ
+  pub middle : Ranks l (length l / 2) ranked
+  pub taken : 1 ≤ tally (λ a. ltb a ranked) l → x ≡ ranked
+  pub next : tally (λ a. ltb a ranked) l ≡ 0 → Ranks l (many ranked l) x
+
+-- no cut: all are one number
+abbrev pub Alike : List ℕ → Type 0
+Alike l = (s : ℕ) × (many s l ≡ length l)
+
+-- the cut of an overfull page of domain e: of the domains from e on, cyclically, the first whose keys differ, and its cut
+pub record CutFor (k e : ℕ) (keys : ℕ → List ℕ) (d x : ℕ) : Type 0 where
+  pub steps : ℕ
+  pub few : steps < k
+  pub domain : d ≡ (e + steps) % k
+  pub cuts : CutsAt (keys d) x
+  pub before : (i : ℕ) → i < steps → Alike (keys ((e + i) % k))
+
+-- where pages are cut: a point page by its keys, a region page by its entries' lower ends
+pub record ByTheCuts (k e : ℕ) : Type 0 where
+  pub points : (rs : List Rec) (d x : ℕ) → cutPoints k e rs ≡ cut d x → CutFor k e (λ c. map (λ r. keyAt c (r .key)) rs) d x
+  pub regions : (bs : List Box) (d x : ℕ) → cutRegions k e bs ≡ cut d x → CutFor k e (λ c. map (lowerAt c) bs) d x
 
 -- the region, where there is one, shares a point with the window: by a point, and as a test
 abbrev pub Shares : Box → Option Box → Type 0
