@@ -14,11 +14,12 @@ use Rattle.kdb.specs.Tree.{Rec}
 use Rattle.kdb.specs.Pages.{Ent, regionsPer, pointsPer, recsIn, entsIn}
 use Rattle.kdb.specs.Pool.{domains, rootAt, levelsAt, pagesIn, isPage, view}
 use Rattle.kdb.specs.Walk.{Spot, Tour, still, follow, through, goodPoints, goodRegions, tour, bounded, listWalk, End, rootless, bad, absent, here, Search, ends, after, into, seek, findWalk, spots, spotOf}
-use Rattle.kdb.specs.Bad.{leads, kindAt, sizeAt, badPage, findBad, listBad, listReads, findStops, listStops}
+use Rattle.kdb.specs.Bad.{leads, kindAt, sizeAt, badPage, findBad, listBad, listReads, findStops, listStops, listCount}
 use Rattle.kdb.specs.Calls.{L, Buffers, finding, listing}
 use Rattle.kdb.specs.Demands.{keyed}
-use Rattle.kdb.proofs.Lists.{cases, some-many, length-only}
+use Rattle.kdb.proofs.Lists.{cases, of-false, some-many, length-only}
 use Rattle.kdb.proofs.Pages.{word-at}
+use Rattle.kdb.proofs.Walk.{at-page}
 use Rattle.kdb.proofs.Words.{kind, count, good-points, good-regions}
 
 -- tests and their opposites
@@ -94,20 +95,20 @@ through-toured v below b m h (e ∷ es) =
     go false = record { stops = refl; reads = λ t. refl }
 
 -- how find's walk ended, by a test b for bad pages and by the records that the pages have
-abbrev Ends : (ℕ → List Rec) → Key → List ℕ → Bool → End → Type 0
-Ends recs p read b rootless = ⊥
-Ends recs p read b bad = T b
-Ends recs p read b (absent i) = T (not b) × ((d : ℕ) → lastOr d read ≡ i) × (tally (keyed p) (recs i) ≡ 0)
-Ends recs p read b (here x) = T (not b) × ((d : ℕ) → lastOr d read ≡ x .page) × (take 1 (only (keyed p) (recs (x .page))) ≡ x .rec ∷ [])
+abbrev EndsAt : (ℕ → List Rec) → Key → List ℕ → Bool → End → Type 0
+EndsAt recs p read b rootless = ⊥
+EndsAt recs p read b bad = T b
+EndsAt recs p read b (absent i) = T (not b) × ((d : ℕ) → lastOr d read ≡ i) × (tally (keyed p) (recs i) ≡ 0)
+EndsAt recs p read b (here x) = T (not b) × ((d : ℕ) → lastOr d read ≡ x .page) × (take 1 (only (keyed p) (recs (x .page))) ≡ x .rec ∷ [])
 
 record Ended (recs : ℕ → List Rec) (p : Key) (g : Search) (b : Bool) : Type 0 where
-  ended : Ends recs p (g .read) b (g .end)
+  ended : EndsAt recs p (g .read) b (g .end)
 
 -- the first record with the keys among the records from slot i on
-spot-ends : (p : Key) (j i : ℕ) (rs : List Rec) (P : End → Type 0) → (tally (keyed p) rs ≡ 0 → P (absent j))
+first-spot : (p : Key) (j i : ℕ) (rs : List Rec) (P : End → Type 0) → (tally (keyed p) rs ≡ 0 → P (absent j))
     → ((x : Spot) → x .page ≡ j → take 1 (only (keyed p) rs) ≡ x .rec ∷ [] → P (here x)) → P (spotOf j p (spots j i rs))
-spot-ends p j i [] P a h = a refl
-spot-ends p j i (r ∷ rs) P a h = go (same p (r .key)) a h (spot-ends p j (suc i) rs P)
+first-spot p j i [] P a h = a refl
+first-spot p j i (r ∷ rs) P a h = go (same p (r .key)) a h (first-spot p j (suc i) rs P)
   where
     go : (t : Bool) → (bit t + tally (keyed p) rs ≡ 0 → P (absent j))
         → ((x : Spot) → x .page ≡ j → take 1 (cond t (r ∷ only (keyed p) rs) (only (keyed p) rs)) ≡ x .rec ∷ [] → P (here x))
@@ -129,11 +130,18 @@ into-ended recs p below b h (e ∷ es) = go (within (e .box) p) (into-ended recs
 after-ended : (recs : ℕ → List Rec) (p : Key) (j : ℕ) (g : Search) (b : Bool) → Ended recs p g b → Ended recs p (after j g) b
 after-ended recs p j g b h = record { ended = go (g .end) (h .ended) }
   where
-    go : (e : End) → Ends recs p (g .read) b e → Ends recs p (j ∷ g .read) b e
+    go : (e : End) → EndsAt recs p (g .read) b e → EndsAt recs p (j ∷ g .read) b e
     go rootless a = a
     go bad a = a
     go (absent i) a = (a .0, λ d. a .1 j, a .2)
     go (here x) a = (a .0, λ d. a .1 j, a .2)
+
+into-levels : (below : ℕ → Search) (p : Key) (m : ℕ) → ((c : ℕ) → (below c .end ≡ bad → ⊥) → length (below c .read) ≡ m) → (es : List Ent)
+    → (into below p es .end ≡ bad → ⊥) → length (into below p es .read) ≡ m
+into-levels below p m h [] n = absurd (n refl)
+into-levels below p m h (e ∷ es) n =
+    cases (λ b. (cond b (below (e .child)) (into below p es) .end ≡ bad → ⊥) → length (cond b (below (e .child)) (into below p es) .read) ≡ m) (within (e .box) p)
+    (λ _. h (e .child)) (λ _. into-levels below p m h es) n
 
 module _ (L : ℕ) (w : List ℕ) (room : 4 ≤ L) where
   bad-points : (j : ℕ) → badPage L w zero j ≡ not (isPage L w j && goodPoints L w j)
@@ -181,11 +189,24 @@ module _ (L : ℕ) (w : List ℕ) (room : 4 ≤ L) where
   bounded-stops N t false m h =
       rw (h .reads tt) (cases (λ x. cond x t (record { read = take (N - 1) (t .read); bad = true; found = [] }) .bad ≡ not x) (ltb m N) (λ _. h .stops) (λ _. refl) ∙ not-below m N)
 
+  bounded-reads : (N : ℕ) (t : Tour) (b : Bool) (m : ℕ) → Toured t b m → bounded L w N t .bad ≡ false → length (bounded L w N t .read) ≡ m
+  bounded-reads N t b m h =
+      cases (λ x. cond x t (record { read = take (N - 1) (t .read); bad = true; found = [] }) .bad ≡ false
+      → length (cond x t (record { read = take (N - 1) (t .read); bad = true; found = [] }) .read) ≡ m) (ltb (length (t .read)) N)
+      (λ _ e. h .reads (of-false b (sym (h .stops) ∙ e))) (λ _ e. absurd (let z : _≡_ {A = ℕ} 0 1 = cc in omega arith))
+
   pub list-stops : (v : Box) → listWalk L w v .bad ≡ listStops L w v
   list-stops v =
       cases (λ z. cond z still (bounded L w (pagesIn L w) (tour L w v (levelsAt w - 1) (rootAt w))) .bad
       ≡ not z && (listBad L w v (levelsAt w - 1) (rootAt w) || leb (pagesIn L w) (listReads L w v (levelsAt w - 1) (rootAt w)))) (eqb (levelsAt w) 0)
       (λ _. refl) (λ _. bounded-stops (pagesIn L w) (tour L w v (levelsAt w - 1) (rootAt w)) _ _ (toured v (levelsAt w - 1) (rootAt w)))
+
+  pub list-complete : (v : Box) → listWalk L w v .bad ≡ false → length (listWalk L w v .read) ≡ listCount L w v
+  list-complete v =
+      let n = levelsAt w - 1 in
+      cases (λ z. cond z still (bounded L w (pagesIn L w) (tour L w v n (rootAt w))) .bad ≡ false
+      → length (cond z still (bounded L w (pagesIn L w) (tour L w v n (rootAt w))) .read) ≡ cond z 0 (listReads L w v n (rootAt w))) (eqb (levelsAt w) 0)
+      (λ _ e. refl) (λ _ e. bounded-reads (pagesIn L w) (tour L w v n (rootAt w)) (listBad L w v n (rootAt w)) (listReads L w v n (rootAt w)) (toured v n (rootAt w)) e)
 
   -- find ends at a bad page exactly if it comes to one, and else in the last page read
   sought : (p : Key) (n j : ℕ) → Ended (λ i. recsIn (view L w i)) p (seek L w p n j) (findBad L w p n j)
@@ -193,7 +214,7 @@ module _ (L : ℕ) (w : List ℕ) (room : 4 ≤ L) where
       let recs : ℕ → List Rec = λ i. recsIn (view L w i) in
       at-points (Ended recs p) j _ _ _
       (record {
-        ended = spot-ends p j 0 (recs j) (λ e. Ends recs p (j ∷ []) false e) (λ z. (tt, λ d. refl, z)) (λ x e q. (tt, λ d. sym e, ap (λ i. take 1 (only (keyed p) (recs i))) e ∙ q));
+        ended = first-spot p j 0 (recs j) (λ e. EndsAt recs p (j ∷ []) false e) (λ z. (tt, λ d. refl, z)) (λ x e q. (tt, λ d. sym e, ap (λ i. take 1 (only (keyed p) (recs i))) e ∙ q));
       })
       (record { ended = tt }) (record { ended = tt })
   sought p (suc n) j =
@@ -202,9 +223,23 @@ module _ (L : ℕ) (w : List ℕ) (room : 4 ≤ L) where
       at-regions (Ended recs p) n j (leads (findBad L w p n) (only (λ e. within (e .box) p) es)) _ _ _
       (after-ended recs p j (into (seek L w p n) p es) _ (into-ended recs p (seek L w p n) (findBad L w p n) (sought p n) es)) (record { ended = tt }) (record { ended = tt })
 
+  -- a find that meets no bad page reads one page of each level
+  seek-levels : (p : Key) (n j : ℕ) → (seek L w p n j .end ≡ bad → ⊥) → length (seek L w p n j .read) ≡ n + 1
+  seek-levels p zero j =
+      at-page (λ (g : Search). (g .end ≡ bad → ⊥) → length (g .read) ≡ 0 + 1) (isPage L w j) (goodPoints L w j) _ _ _ (λ _ h. refl) (λ _ h. absurd (h refl)) (λ h. absurd (h refl))
+  seek-levels p (suc n) j =
+      at-page (λ (g : Search). (g .end ≡ bad → ⊥) → length (g .read) ≡ suc n + 1) (isPage L w j) (goodRegions L w j) _ _ _
+      (λ _ h. omega (arith, into-levels (seek L w p n) p (n + 1) (seek-levels p n) (entsIn (view L w j)) h)) (λ _ h. absurd (h refl)) (λ h. absurd (h refl))
+
+  pub find-levels : (p : Key) → (findWalk L w p .end ≡ bad → ⊥) → length (findWalk L w p .read) ≡ levelsAt w
+  find-levels p =
+      cases (λ z. (cond z (ends [] rootless) (seek L w p (levelsAt w - 1) (rootAt w)) .end ≡ bad → ⊥)
+      → length (cond z (ends [] rootless) (seek L w p (levelsAt w - 1) (rootAt w)) .read) ≡ levelsAt w) (eqb (levelsAt w) 0)
+      (λ t _. sym (eqb→eq (levelsAt w) 0 t)) (λ t h. omega (arith, some-many (levelsAt w) t, seek-levels p (levelsAt w - 1) (rootAt w) h))
+
   -- a property of a find with no root, and of one whose walk ended as it must, holds of every find
   find-cases : (p : Key) (C : Search → Bool → Type 0) → C (ends [] rootless) false
-      → ((read : List ℕ) (e : End) (b : Bool) → Ends (λ i. recsIn (view L w i)) p read b e → C (ends read e) b) → C (findWalk L w p) (findStops L w p)
+      → ((read : List ℕ) (e : End) (b : Bool) → EndsAt (λ i. recsIn (view L w i)) p read b e → C (ends read e) b) → C (findWalk L w p) (findStops L w p)
   find-cases p C r s =
       let n = levelsAt w - 1 in
       let g = seek L w p n (rootAt w) in
@@ -230,7 +265,7 @@ module _ (w : List ℕ) (p : Key) (buffers : Buffers) where
   pub find-six : (finding (findWalk L w p) buffers .number ≡ 6) ↔ T (findStops L w p)
   find-six = find-cases L w (omega arith) p (λ g b. (finding g buffers .number ≡ 6) ↔ T b) (λ z. absurd (omega arith), λ t. absurd t) go
     where
-      go : (read : List ℕ) (e : End) (b : Bool) → Ends (λ i. recsIn (view L w i)) p read b e → (finding (ends read e) buffers .number ≡ 6) ↔ T b
+      go : (read : List ℕ) (e : End) (b : Bool) → EndsAt (λ i. recsIn (view L w i)) p read b e → (finding (ends read e) buffers .number ≡ 6) ↔ T b
       go read rootless b a = absurd a
       go read bad b a = (λ z. a, λ t. refl)
       go read (absent i) b a = (λ z. absurd (omega arith), λ t. absurd (both b t (a .0)))
@@ -240,7 +275,7 @@ module _ (w : List ℕ) (p : Key) (buffers : Buffers) where
   find-eight =
       find-cases L w (omega arith) p (λ g b. (finding g buffers .number ≡ 8) ↔ (T (not b) × (tally (keyed p) (lastOf (g .read)) ≡ 0))) (λ z. (tt, refl), λ q. refl) go
     where
-      go : (read : List ℕ) (e : End) (b : Bool) → Ends (λ i. recsIn (view L w i)) p read b e
+      go : (read : List ℕ) (e : End) (b : Bool) → EndsAt (λ i. recsIn (view L w i)) p read b e
           → (finding (ends read e) buffers .number ≡ 8) ↔ (T (not b) × (tally (keyed p) (lastOf read) ≡ 0))
       go read rootless b a = absurd a
       go read bad b a = (λ z. absurd (omega arith), λ q. absurd (both b a (q .0)))
@@ -255,7 +290,7 @@ module _ (w : List ℕ) (p : Key) (buffers : Buffers) where
       find-cases L w (omega arith) p (λ g b. (finding g buffers .number ≡ 0) ↔ (T (not b) × (1 ≤ tally (keyed p) (lastOf (g .read)))))
       (λ z. absurd (omega arith), λ q. absurd (let z : 1 ≤ 0 = q .1 in omega arith)) go
     where
-      go : (read : List ℕ) (e : End) (b : Bool) → Ends (λ i. recsIn (view L w i)) p read b e
+      go : (read : List ℕ) (e : End) (b : Bool) → EndsAt (λ i. recsIn (view L w i)) p read b e
           → (finding (ends read e) buffers .number ≡ 0) ↔ (T (not b) × (1 ≤ tally (keyed p) (lastOf read)))
       go read rootless b a = absurd a
       go read bad b a = (λ z. absurd (omega arith), λ q. absurd (both b a (q .0)))
@@ -272,7 +307,7 @@ module _ (w : List ℕ) (p : Key) (buffers : Buffers) where
       (λ g b. finding g buffers .number ≡ 0 → finding g buffers .values ≡ map (λ r. r .loc) (take 1 (only (keyed p) (lastOf (g .read)))) ++ (length (g .read) ∷ []))
       (λ z. absurd (omega arith)) go
     where
-      go : (read : List ℕ) (e : End) (b : Bool) → Ends (λ i. recsIn (view L w i)) p read b e → finding (ends read e) buffers .number ≡ 0
+      go : (read : List ℕ) (e : End) (b : Bool) → EndsAt (λ i. recsIn (view L w i)) p read b e → finding (ends read e) buffers .number ≡ 0
           → finding (ends read e) buffers .values ≡ map (λ r. r .loc) (take 1 (only (keyed p) (lastOf read))) ++ (length read ∷ [])
       go read rootless b a z = absurd a
       go read bad b a z = absurd (omega arith)

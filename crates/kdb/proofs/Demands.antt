@@ -14,10 +14,11 @@ use Rattle.kdb.specs.Box.{Key, whole, within}
 use Rattle.kdb.specs.Tree.{Rec, State, Tree, records, recordsOf}
 use Rattle.kdb.specs.Steps.{removed}
 use Rattle.kdb.specs.Shape.{WellFormed}
-use Rattle.kdb.specs.Pool.{domains, pagesIn, goodLength, goodHeader, Sound, ownRegion}
+use Rattle.kdb.specs.Pool.{domains, levelsAt, pagesIn, goodLength, goodHeader, Sound, ownRegion}
 use Rattle.kdb.specs.Print.{printed, stateOf, sound}
-use Rattle.kdb.specs.Walk.{Spot, End, rootless, bad, absent, here, findWalk, listWalk}
-use Rattle.kdb.specs.Calls.{L, Call, format, check, place, remove, find, list, Outcome, goodDomains, finite, present, placing, removing, stepped, outcome, windowOf, walkOf, begins, Promise}
+use Rattle.kdb.specs.Walk.{Spot, Tour, End, rootless, bad, absent, here, Search, findWalk, listWalk}
+use Rattle.kdb.specs.Bad.{listCount}
+use Rattle.kdb.specs.Calls.{L, Call, format, check, place, remove, find, list, Outcome, goodDomains, finite, present, lent, placing, removing, finding, listing, stepped, outcome, windowOf, walkOf, begins, Promise}
 use Rattle.kdb.specs.History.{answerOf, change, changed, live, Keeps, over, next}
 use Rattle.kdb.specs.Demands.{SameRecords, keyed, ListsExactly, FindsExactly, Demand2, ByTheSteps, goodWindow, Shares, Demand3, Bounded}
 use Rattle.kdb.proofs.Walk.{walk-bound, walk-pages, walk-silent, list-returns, find-returns}
@@ -30,7 +31,8 @@ use Rattle.kdb.proofs.Format.{formatted-printed, none-formed}
 use Rattle.kdb.proofs.Grow.{roomy-32, placed-formed, removed-formed, key-once, Placing, Placed}
 use Rattle.kdb.proofs.Reading.{Answers, find-rootless, find-answers, list-reads, list-once, list-count, find-reads}
 use Rattle.kdb.proofs.Windows.{good-meets, point-good, point-reads, point-path}
-use Rattle.kdb.proofs.Calls.{done, refusal-keeps, check-still, find-still, list-still}
+use Rattle.kdb.proofs.Bad.{find-levels, list-complete}
+use Rattle.kdb.proofs.Calls.{done, goes-on, refusal-keeps, check-still, find-still, list-still}
 use Rattle.kdb.proofs.History.{without-tally, changed-same}
 use Rattle.kdb.proofs.Answers.{list-begins, find-begins, list-answers, find-finds}
 
@@ -310,12 +312,35 @@ module _ (w : List ℕ) (s : Sound L w) where
       }
 
 -- Demand 3, on any words
+find-levelled : (w p : List ℕ) → T (begins w (find p)) → (outcome w (find p) .number ≡ 6 → ⊥) → length (walkOf w (find p)) ≡ levelsAt w
+find-levelled w p h n =
+    ap (λ b. length (cond b (findWalk L w p .read) [])) (is-true (begins w (find p)) h)
+    ∙ find-levels L w (omega arith) p (λ e. n (ap (λ o. o .number) (goes-on w (find p) h) ∙ go (findWalk L w p) e))
+  where
+    go : (g : Search) → g .end ≡ bad → finding g (lent w (find p)) .number ≡ 6
+    go g e = rw e
+
+list-whole : (w v slots : List ℕ) → outcome w (list v slots) .number ≡ 0 → length (walkOf w (list v slots)) ≡ listCount L w (windowOf (domains w) v)
+list-whole w v slots z =
+    let d = done w (list v slots) z in
+    ap (λ b. length (cond b (listWalk L w (windowOf (domains w) v) .read) [])) (is-true (begins w (list v slots)) (d .0))
+    ∙ list-complete L w (omega arith) (windowOf (domains w) v) (go (listWalk L w (windowOf (domains w) v)) (sym (ap (λ o. o .number) (d .1)) ∙ z))
+  where
+    go : (t : Tour) → listing t w slots .number ≡ 0 → t .bad ≡ false
+    go t z = by (t .bad) z
+      where
+        by : (m : Bool) → listing (record { read = t .read; bad = m; found = t .found }) w slots .number ≡ 0 → m ≡ false
+        by true z = absurd (omega arith)
+        by false z = refl
+
 pub bounded : (w : List ℕ) → Bounded w
 bounded w =
     record {
       most = walk-bound w;
       pages = walk-pages w;
       silent = walk-silent w;
+      levelled = find-levelled w;
+      complete = list-whole w;
       found = λ p z. ap (λ l. getD l 1 0) (find-returns w p z .2);
       listed = λ v slots z. ap (λ l. getD l 1 0) (list-returns w v slots z .1);
     }

@@ -54,3 +54,7 @@ module _ (L : ℕ) (w : List ℕ) where
   listStops v =
       not (eqb (levelsAt w) 0)
       && (listBad v (levelsAt w - 1) (rootAt w) || leb (pagesIn L w) (listReads v (levelsAt w - 1) (rootAt w)))
+
+  -- the pages that list reads where it does not stop
+  abbrev pub listCount : Box → ℕ
+  listCount v = cond (eqb (levelsAt w) 0) 0 (listReads v (levelsAt w - 1) (rootAt w))

@@ -18,7 +18,7 @@ use Rattle.kdb.specs.Pages.{page, regionsPer, pointsPer, recsIn}
 use Rattle.kdb.specs.Pool.{domains, levelsAt, pagesIn, GoodLength, GoodHeader, view, numbers, Sound, ownRegion}
 use Rattle.kdb.specs.Print.{printed, stateOf}
 use Rattle.kdb.specs.Walk.{listWalk}
-use Rattle.kdb.specs.Bad.{findStops, listStops}
+use Rattle.kdb.specs.Bad.{findStops, listStops, listCount}
 use Rattle.kdb.specs.Calls.{L, Call, format, check, place, remove, find, list, Outcome, finite, windowOf, ordered, stepped, outcome, begins, walkOf, Promise}
 
 -- the same records, each as often: equal counts for every test
@@ -248,11 +248,14 @@ pub record Demand3 (w : List ℕ) : Type 0 where
   pub path : (p slots : List ℕ) → T (goodPoint (domains w) p) → walkOf w (find p) ≡ walkOf w (list (p ++ p) slots)
 
 -- Demand 3, on any words: no walk is longer than N − 1, refused walks included, its numbers are those of pages, a call refused before its
--- walk begins reads nothing, and the count returned is the walk's length
+-- walk begins reads nothing, one that is not refused reads a page of each level (find) or every page that it has to (list), and the count
+-- returned is the walk's length
 pub record Bounded (w : List ℕ) : Type 0 where
   pub most : (c : Call) → length (walkOf w c) ≤ pagesIn L w - 1
   pub pages : (c : Call) (j : ℕ) → 1 ≤ many j (walkOf w c) → (1 ≤ j) × (j < pagesIn L w)
   pub silent : (c : Call) → begins w c ≡ false → walkOf w c ≡ []
+  pub levelled : (p : List ℕ) → T (begins w (find p)) → (outcome w (find p) .number ≡ 6 → ⊥) → length (walkOf w (find p)) ≡ levelsAt w
+  pub complete : (v slots : List ℕ) → outcome w (list v slots) .number ≡ 0 → length (walkOf w (list v slots)) ≡ listCount L w (windowOf (domains w) v)
   pub found : (p : List ℕ) → outcome w (find p) .number ≡ 0 → getD (outcome w (find p) .values) 1 0 ≡ length (walkOf w (find p))
   pub listed : (v slots : List ℕ) → outcome w (list v slots) .number ≡ 0 → getD (outcome w (list v slots) .values) 1 0 ≡ length (walkOf w (list v slots))
 
