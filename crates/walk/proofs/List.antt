@@ -71,10 +71,12 @@ after-still N s out g = go (s .bad)
 abbrev reaching : ℕ → Bool → Bool → Tour → Tour
 reaching j is good below = cond is (cond good (follow (readAt j []) below) (badAt j)) astray
 
--- the state at page j: `more` says that the bound allows one more
+-- the state at page j: `may` says that it may be read, `more` that the bound allows one more
+abbrev counts : Tally → Bool → Bool → Tally
+counts s may good = cond may (record { reads = s .reads + 1; total = s .total; bad = not good }) (record { reads = s .reads; total = s .total; bad = true })
+
 abbrev reached : Tally → Bool → Bool → Bool → Bool → Tally
-reached s bad is more good =
-    cond (not bad && is && more) (record { reads = s .reads + 1; total = s .total; bad = not good }) (record { reads = s .reads; total = s .total; bad = true })
+reached s bad is more good = counts s (not bad && is && more) good
 
 module _ (N : ℕ) (s : Tally) (out : List ℕ) (g : Fair N s) (j : ℕ) (b : Tour) where
   abbrev was : Bool → St
@@ -89,6 +91,9 @@ module _ (N : ℕ) (s : Tally) (out : List ℕ) (g : Fair N s) (j : ℕ) (b : To
       let last : N - 1 ≡ s .reads = omega (arith, ltb-false (s .reads + 1) N e, g .few) in after-follow N (was false) (readAt j []) b ∙ rw (e, last)
   reach false true false false e = let last : N - 1 ≡ s .reads = omega (arith, ltb-false (s .reads + 1) N e, g .few) in rw (e, last)
 
+clash : {A : Type 0} {b : Bool} → b ≡ true → b ≡ false → A
+clash t f = absurd (let y : _≡_ {A = ℕ} 0 1 = cc in omega arith)
+
 -- a walk that goes on from page j has a good page j, one more read, and the total that it had
 pub record GoesOn (n j : ℕ) (good : Bool) (s t : Tally) : Type 0 where
   pub is : leb 1 j && ltb j n ≡ true
@@ -99,15 +104,34 @@ pub record GoesOn (n j : ℕ) (good : Bool) (s t : Tally) : Type 0 where
 pub goes-on : (n j : ℕ) (good : Bool) (s t : Tally) → t ≡ arrived n j good s → t .bad ≡ false → GoesOn n j good s t
 goes-on n j good s t e h = go (s .bad) (leb 1 j && ltb j n) refl (ltb (s .reads + 1) n) good refl e
   where
-    wrong : {A : Type 0} → t .bad ≡ true → A
-    wrong z = absurd (let y : _≡_ {A = ℕ} 0 1 = cc in omega arith)
-
     go : (bad is : Bool) → leb 1 j && ltb j n ≡ is → (more ok : Bool) → good ≡ ok → t ≡ reached s bad is more ok → GoesOn n j good s t
-    go true is p more ok q z = wrong (ap (λ u. u .bad) z)
-    go false false p more ok q z = wrong (ap (λ u. u .bad) z)
-    go false true p false ok q z = wrong (ap (λ u. u .bad) z)
+    go true is p more ok q z = clash (ap (λ u. u .bad) z) h
+    go false false p more ok q z = clash (ap (λ u. u .bad) z) h
+    go false true p false ok q z = clash (ap (λ u. u .bad) z) h
     go false true p true true q z = record { is = p; takes = q; reads = ap (λ u. u .reads) z; total = ap (λ u. u .total) z }
-    go false true p true false q z = wrong (ap (λ u. u .bad) z)
+    go false true p true false q z = clash (ap (λ u. u .bad) z) h
+
+-- page j, counted before it is looked at: the walk has stopped, whatever the page is; or stops at it, if it is bad; or enters it
+module _ (n j : ℕ) (good : Bool) (s u : Tally) (e : u ≡ arrived n j true s) where
+  abbrev may : Bool
+  may = not (s .bad) && (leb 1 j && ltb j n) && ltb (s .reads + 1) n
+
+  pub stops-before : u .bad ≡ true → u ≡ arrived n j good s
+  stops-before h = go may e
+    where
+      go : (b : Bool) → u ≡ counts s b true → u ≡ counts s b good
+      go true z = clash h (ap (λ t. t .bad) z)
+      go false z = z
+
+  pub stops-at : good ≡ false → u .bad ≡ false → record { reads = u .reads; total = u .total; bad = true } ≡ arrived n j good s
+  stops-at g h = rw g (go may e)
+    where
+      go : (b : Bool) → u ≡ counts s b true → record { reads = u .reads; total = u .total; bad = true } ≡ counts s b false
+      go true z = ap (λ t. record { reads = t .reads; total = t .total; bad = true }) z
+      go false z = clash (ap (λ t. t .bad) z) h
+
+  pub enters : good ≡ true → u ≡ arrived n j good s
+  enters g = rw g e
 
 -- a slot written as it was, or anew
 pub counted : (b : Bool) (t : ℕ) → t + bit b ≡ cond b (t + 1) t
@@ -178,8 +202,8 @@ module _ (w : List ℕ) (n k : ℕ) (f : Fit w n k) (v : Box) (j : ℕ) (s : Tal
     leaf-from : after n (seen s out) (tour L w v 0 j) ≡ after n (seen t out) (finds (only (λ q. inWindow v (q .rec .key)) (spots j 0 (recsIn (view L w j)))))
     leaf-from = rw e leaf
 
-    pub leaf-bad : t .bad ≡ true → stopped (t .reads) ≡ after n (seen s out) (tour L w v 0 j)
-    leaf-bad h = sym (leaf-from ∙ stays n t out _ h ∙ rw h)
+    pub leaf-bad : t .bad ≡ true → seen t out ≡ after n (seen s out) (tour L w v 0 j)
+    leaf-bad h = sym (leaf-from ∙ stays n t out _ h)
 
     pub leaf-page : t .bad ≡ false → PointPage w k j × (recsIn (view L w j) ≡ readRecs k (wordAt w j 1) (drop (L * j + 4) w))
     leaf-page h = let z = goes-on n j (pointWords w k j) s t e h in point-page w n k j f (z .is) (z .takes)
@@ -240,10 +264,19 @@ module _ (k c e : ℕ) (w : List ℕ) (v : Box) (a m : ℕ) (ch x : List ℕ) wh
       go true = rw (add-one m, take-suc-set ch m entry l) (append-assoc (take m ch) (entry ∷ []) others)
       go false = rw (add-zero m, take-set-le m ch m entry (omega arith))
 
+pub not-all : (i m : ℕ) (b : Bool) → ltb i m && b ≡ true → i < m
+not-all i m b t = ltb-true i m (and-t (ltb i m) b t .0)
+
 -- the first m of these pages, from the one after i others on
 module _ (n m i : ℕ) (below : ℕ → Tour) (ch : List ℕ) (u : Tally) (out : List ℕ) (x : St) where
-  pub each-end : after n (seen u out) (each below (take (m - i) (drop i ch))) ≡ x → m ≤ i → Fair n u → seen u out ≡ x
-  each-end q h g = let z : m - i ≡ 0 = omega arith in sym (after-still n u out g) ∙ (rw z at q)
+  -- all passed, or stopped: then the others change nothing
+  pub each-end : after n (seen u out) (each below (take (m - i) (drop i ch))) ≡ x → ltb i m && not (u .bad) ≡ false → Fair n u → seen u out ≡ x
+  each-end q h g = go (ltb i m) refl (u .bad) refl h
+    where
+      go : (b : Bool) → ltb i m ≡ b → (bad : Bool) → u .bad ≡ bad → b && not bad ≡ false → seen u out ≡ x
+      go false e bad f y = let z : m - i ≡ 0 = omega (arith, ltb-false i m e) in sym (after-still n u out g) ∙ (rw z at q)
+      go true e true f y = sym (stays n u out _ f) ∙ q
+      go true e false f y = clash refl y
 
   pub each-next : after n (seen u out) (each below (take (m - i) (drop i ch))) ≡ x → i < m → i < length ch → (u′ : Tally) (out′ : List ℕ)
       → seen u′ out′ ≡ after n (seen u out) (below (getD ch i 0))

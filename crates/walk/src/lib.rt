@@ -164,10 +164,10 @@ pub fn search(pool: &[u32], n: usize, k: usize, point: &[u32]) -> Sought
     descend(pool, n, domains(k), point, get(pool, 2), levels)
 }
 
-// Page j is read, if it is a page and the bound allows one more; the walk goes on if it is good.
-fn arrive(n: usize, j: usize, good: bool, s: Tally) -> Tally
+// Before page j is looked at: it counts as read, if it is a page and the bound allows one more; else the walk stops.
+fn arrive(n: usize, j: usize, s: Tally) -> Tally
     requires { ⌜ (n ≤ 512) × Fair n s ⌝ }
-    ensures { λ r. ⌜ (r ≡ arrived n j good s) × Fair n r ⌝ }
+    ensures { λ r. ⌜ (r ≡ arrived n j true s) × Fair n r ⌝ }
 {
     let reads = s.reads;
     let total = s.total;
@@ -175,7 +175,7 @@ fn arrive(n: usize, j: usize, good: bool, s: Tally) -> Tally
         Tally {
             reads: reads + 1,
             total,
-            bad: !good,
+            bad: false,
         }
     } else {
         Tally {
@@ -258,21 +258,23 @@ fn list_leaf(
     requires { ⌜ Fit (now pool) n k × ((length (now window) ≡ 2 * k) × ((j < 2 ^ 32) × Fair n s)) ⌝ }
     ensures { λ r. ⌜ (seen r (now (answer .exit)) ≡ after n (seen s (now (answer .entry))) (tour L (now (pool .entry)) (windowOf k (now (window .entry))) 0 j)) × Fair n r ⌝ }
 {
-    let t = arrive(n, j, point_page(pool, n, k, j), s);
+    let t = arrive(n, j, s);
+    if t.bad {
+        return t;
+    }
     let reads = t.reads;
     let total = t.total;
-    if t.bad {
-        Tally {
+    if !point_page(pool, n, k, j) {
+        return Tally {
             reads,
             total,
             bad: true,
-        }
-    } else {
-        Tally {
-            reads,
-            total: list_points(pool, k, window, answer, j, total),
-            bad: false,
-        }
+        };
+    }
+    Tally {
+        reads,
+        total: list_points(pool, k, window, answer, j, total),
+        bad: false,
     }
 }
 
@@ -311,7 +313,7 @@ fn list_leaves(
 {
     let mut t = s;
     let mut i: usize = 0;
-    while i < m {
+    while (i < m) & !t.bad {
         t = list_leaf(pool, n, k, window, answer, read(child, i), t);
         i += 1;
     }
@@ -332,9 +334,16 @@ fn list_page(
     requires { ⌜ Fit (now pool) n k × ((length (now window) ≡ 2 * k) × ((1 < level) × ((j < 2 ^ 32) × Fair n s))) ⌝ }
     ensures { λ r. ⌜ (seen r (now (answer .exit)) ≡ after n (seen s (now (answer .entry))) (tour L (now (pool .entry)) (windowOf k (now (window .entry))) (level - 1) j)) × Fair n r ⌝ }
 {
-    let mut t = arrive(n, j, region_page(pool, n, k, j), s);
+    let mut t = arrive(n, j, s);
     if t.bad {
         return t;
+    }
+    if !region_page(pool, n, k, j) {
+        return Tally {
+            reads: t.reads,
+            total: t.total,
+            bad: true,
+        };
     }
     let mut child = [0u32; 9];
     let m = meeting(pool, k, window, j, &mut child);
@@ -342,7 +351,7 @@ fn list_page(
         return list_leaves(pool, n, k, window, answer, &child, m, t);
     }
     let mut i: usize = 0;
-    while i < m {
+    while (i < m) & !t.bad {
         t = list_page(pool, n, k, window, answer, level - 1, read(&child, i), t);
         i += 1;
     }

@@ -12,8 +12,8 @@ is-page-requires c κs = search needs
 add-if1 : tie.Need-add-if1
 add-if1 c = search needs
 
-add-t14 : tie.Need-add-t14
-add-t14 c = search needs
+add-t13 : tie.Need-add-t13
+add-t13 c = search needs
 
 returns : tie.Need-returns
 returns c = let a = c .before .before .before .args in
@@ -24,4 +24,4 @@ returns-2 : tie.Need-returns-2
 returns-2 c = (rw ((rw (c .before .is-page .ensures) at (c .if1 .left))), record { few = c .before .before .before .pre .1 .few; small = c .before .before .before .pre .1 .small })
 
 pub arrive-spec : {M : Type 1} → statement M
-arrive-spec = tie.close (tie.spec is-page-requires add-if1 add-t14 returns returns-2)
+arrive-spec = tie.close (tie.spec is-page-requires add-if1 add-t13 returns returns-2)
