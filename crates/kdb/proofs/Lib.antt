@@ -24,6 +24,8 @@ pub mod Frames
 pub mod Reading
 pub mod Own
 pub mod Windows
+pub mod Rows
 pub mod Cases
+pub mod Choices
 pub mod Sessions
 pub mod Words
