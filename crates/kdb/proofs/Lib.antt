@@ -27,5 +27,6 @@ pub mod Windows
 pub mod Rows
 pub mod Cases
 pub mod Choices
+pub mod Spoilt
 pub mod Sessions
 pub mod Words
