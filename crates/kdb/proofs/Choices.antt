@@ -174,18 +174,18 @@ entry-after =
     ∷ (1 ∷ 3 ∷ 2 ∷ 0 ∷ 0 ∷ 0 ∷ 0 ∷ 0 ∷ inf ∷ inf ∷ 3 ∷ inf ∷ 3 ∷ 0 ∷ 0 ∷ 9 ∷ 0 ∷ inf ∷ inf ∷ inf ∷ inf ∷ 1 ∷ 0 ∷ 0 ∷ 3 ∷ 0 ∷ inf ∷ inf ∷ 9 ∷ inf ∷ 2 ∷ [])
     ∷ [] ∷ [])
 
--- the record of 10, 5 is gone; pages and domains stay
+-- the record of 30, 15 is gone; pages and domains stay
 abbrev pub two-cross-removed : List ℕ
 two-cross-removed =
     pool-of ((2 ∷ 12 ∷ 11 ∷ 3 ∷ 17 ∷ [])
     ∷ (2 ∷ 1 ∷ 1 ∷ 0 ∷ 0 ∷ 20 ∷ 61 ∷ [])
     ∷ (2 ∷ 5 ∷ 0 ∷ 0 ∷ 50 ∷ 25 ∷ 11 ∷ 52 ∷ 29 ∷ 13 ∷ 54 ∷ 27 ∷ 15 ∷ 56 ∷ 28 ∷ 17 ∷ 59 ∷ 26 ∷ 20 ∷ [])
-    ∷ (2 ∷ 1 ∷ 0 ∷ 0 ∷ 49 ∷ 7 ∷ 44 ∷ [])
+    ∷ (2 ∷ 2 ∷ 0 ∷ 0 ∷ 10 ∷ 5 ∷ 42 ∷ 49 ∷ 7 ∷ 44 ∷ [])
     ∷ (2 ∷ 5 ∷ 0 ∷ 0 ∷ 51 ∷ 21 ∷ 12 ∷ 53 ∷ 23 ∷ 14 ∷ 55 ∷ 20 ∷ 16 ∷ 57 ∷ 22 ∷ 18 ∷ 58 ∷ 24 ∷ 19 ∷ [])
     ∷ (1 ∷ 5 ∷ 1 ∷ 0 ∷ 50 ∷ 10 ∷ inf ∷ 20 ∷ 7 ∷ 50 ∷ 20 ∷ inf ∷ 25 ∷ 4 ∷ 50 ∷ 0 ∷ inf ∷ 10 ∷ 10 ∷ 50 ∷ 30 ∷ inf ∷ inf ∷ 9 ∷ 50 ∷ 25 ∷ inf ∷ 30 ∷ 2 ∷ [])
     ∷ (1 ∷ 3 ∷ 1 ∷ 0 ∷ 0 ∷ 10 ∷ 50 ∷ 20 ∷ 8 ∷ 0 ∷ 0 ∷ 50 ∷ 10 ∷ 3 ∷ 0 ∷ 20 ∷ 50 ∷ inf ∷ 1 ∷ [])
     ∷ (2 ∷ 0 ∷ 1 ∷ [])
-    ∷ (2 ∷ 2 ∷ 1 ∷ 0 ∷ 30 ∷ 15 ∷ 31 ∷ 20 ∷ 11 ∷ 32 ∷ [])
+    ∷ (2 ∷ 1 ∷ 1 ∷ 0 ∷ 20 ∷ 11 ∷ 32 ∷ [])
     ∷ (2 ∷ 1 ∷ 0 ∷ 0 ∷ 70 ∷ 70 ∷ 51 ∷ [])
     ∷ (2 ∷ 2 ∷ 0 ∷ 0 ∷ 60 ∷ 5 ∷ 41 ∷ 50 ∷ 0 ∷ 43 ∷ [])
     ∷ (1 ∷ 2 ∷ 0 ∷ 0 ∷ 0 ∷ 0 ∷ 50 ∷ inf ∷ 6 ∷ 50 ∷ 0 ∷ inf ∷ inf ∷ 5 ∷ []) ∷ [])
@@ -234,7 +234,7 @@ table =
     ∷ lists "four levels, one slot too few" three-levels-after (0 ∷ 0 ∷ 0 ∷ 0 ∷ top ∷ top ∷ top ∷ top ∷ []) (9 ∷ 9 ∷ 9 ∷ 9 ∷ 9 ∷ 9 ∷ 9 ∷ 9 ∷ 9 ∷ 9 ∷ 9 ∷ []) (0 ∷ 12 ∷ 18 ∷ []) (32 ∷ 51 ∷ 31 ∷ 33 ∷ 52 ∷ 11 ∷ 12 ∷ 14 ∷ 41 ∷ 13 ∷ 15 ∷ [])
     ∷ leaves "K = 3, a new root above a region page" third (place (junk 384) (19 ∷ 4 ∷ 0 ∷ []) 18 ∷ []) ((0 ∷ []) ∷ []) third-after third
     ∷ leaves "K = 4, the third entry" entry (place (junk 192) (1 ∷ 1 ∷ 1 ∷ 1 ∷ []) 20 ∷ []) ((0 ∷ []) ∷ []) entry-after entry
-    ∷ turns "remove below three levels" two-cross-after (remove (10 ∷ 5 ∷ []) ∷ check ∷ []) ((0 ∷ 42 ∷ []) ∷ (0 ∷ []) ∷ []) two-cross-removed
+    ∷ turns "remove below three levels" two-cross-after (remove (30 ∷ 15 ∷ []) ∷ check ∷ []) ((0 ∷ 31 ∷ []) ∷ (0 ∷ []) ∷ []) two-cross-removed
     ∷ leaves "K = 3, the eighth point" (junk 128) (format 3 ∷ stores 128 ((3 ∷ 0 ∷ 1 ∷ []) ∷ (3 ∷ 5 ∷ 1 ∷ []) ∷ (3 ∷ 2 ∷ 1 ∷ []) ∷ (3 ∷ 7 ∷ 1 ∷ []) ∷ (3 ∷ 4 ∷ 1 ∷ []) ∷ (3 ∷ 1 ∷ 1 ∷ []) ∷ (3 ∷ 6 ∷ 1 ∷ []) ∷ (3 ∷ 3 ∷ 1 ∷ []) ∷ []) 10) (done 9) eighth-after eighth
     ∷ leaves "K = 4, the sixth point" (junk 160) (format 4 ∷ stores 160 ((3 ∷ 5 ∷ 9 ∷ 2 ∷ []) ∷ (3 ∷ 5 ∷ 9 ∷ 0 ∷ []) ∷ (3 ∷ 5 ∷ 9 ∷ 5 ∷ []) ∷ (3 ∷ 5 ∷ 9 ∷ 3 ∷ []) ∷ (3 ∷ 5 ∷ 9 ∷ 1 ∷ []) ∷ (3 ∷ 5 ∷ 9 ∷ 6 ∷ []) ∷ []) 10) (done 7) sixth-after sixth
     ∷ []

@@ -44,19 +44,19 @@ table =
     ∷ walks "list of a crossed window" two (list (6 ∷ 5 ∷ []) (9 ∷ 9 ∷ [])) (5 ∷ []) (9 ∷ 9 ∷ []) []
     ∷ walks "list on a bad header" (but 1 4 two) (list (0 ∷ 9 ∷ []) (9 ∷ 9 ∷ [])) (6 ∷ []) (9 ∷ 9 ∷ []) []
     ∷ walks "find of a long point" two (find (10 ∷ 10 ∷ [])) (3 ∷ []) [] []
-    -- the header, word by word; with a good header a find of no key is 3
-    ∷ tells "K 0" (but 0 0 two) (find [] ∷ []) ((6 ∷ []) ∷ [])
-    ∷ tells "K 5" (but 0 5 two) (find [] ∷ []) ((6 ∷ []) ∷ [])
-    ∷ tells "word 1 is not N" (but 1 4 two) (find [] ∷ []) ((6 ∷ []) ∷ [])
-    ∷ tells "the root is page N − 1" (but 2 4 two) (find [] ∷ []) ((3 ∷ []) ∷ [])
-    ∷ tells "the root is page N" (but 2 5 two) (find [] ∷ []) ((6 ∷ []) ∷ [])
-    ∷ tells "N − 1 levels" (but 3 4 two) (find [] ∷ []) ((3 ∷ []) ∷ [])
-    ∷ tells "N levels" (but 3 5 two) (find [] ∷ []) ((6 ∷ []) ∷ [])
-    ∷ tells "a root without levels" (but 3 0 two) (find [] ∷ []) ((6 ∷ []) ∷ [])
-    ∷ tells "levels without a root" (but 2 0 two) (find [] ∷ []) ((6 ∷ []) ∷ [])
-    ∷ tells "word 5" (but 5 1 two) (find [] ∷ []) ((6 ∷ []) ∷ [])
-    ∷ tells "word 31" (but 31 1 two) (find [] ∷ []) ((6 ∷ []) ∷ [])
-    ∷ tells "word 4 may be anything" (but 4 99 two) (find [] ∷ []) ((3 ∷ []) ∷ [])
+    -- the header, word by word; with a good header a find of two keys is 3
+    ∷ tells "K 0" (but 0 0 two) (find (1 ∷ 1 ∷ []) ∷ []) ((6 ∷ []) ∷ [])
+    ∷ tells "K 5" (but 0 5 two) (find (1 ∷ 1 ∷ []) ∷ []) ((6 ∷ []) ∷ [])
+    ∷ tells "word 1 is not N" (but 1 4 two) (find (1 ∷ 1 ∷ []) ∷ []) ((6 ∷ []) ∷ [])
+    ∷ tells "the root is page N − 1" (but 2 4 two) (find (1 ∷ 1 ∷ []) ∷ []) ((3 ∷ []) ∷ [])
+    ∷ tells "the root is page N" (but 2 5 two) (find (1 ∷ 1 ∷ []) ∷ []) ((6 ∷ []) ∷ [])
+    ∷ tells "N − 1 levels" (but 3 4 two) (find (1 ∷ 1 ∷ []) ∷ []) ((3 ∷ []) ∷ [])
+    ∷ tells "N levels" (but 3 5 two) (find (1 ∷ 1 ∷ []) ∷ []) ((6 ∷ []) ∷ [])
+    ∷ tells "a root without levels" (but 3 0 two) (find (1 ∷ 1 ∷ []) ∷ []) ((6 ∷ []) ∷ [])
+    ∷ tells "levels without a root" (but 2 0 two) (find (1 ∷ 1 ∷ []) ∷ []) ((6 ∷ []) ∷ [])
+    ∷ tells "word 5" (but 5 1 two) (find (1 ∷ 1 ∷ []) ∷ []) ((6 ∷ []) ∷ [])
+    ∷ tells "word 31" (but 31 1 two) (find (1 ∷ 1 ∷ []) ∷ []) ((6 ∷ []) ∷ [])
+    ∷ tells "word 4 may be anything" (but 4 99 two) (find (1 ∷ 1 ∷ []) ∷ []) ((3 ∷ []) ∷ [])
     -- pools that are not sound; page 1 is the region page [0, 50), [50, ∞) of pages 2 and 3, page 4 is free
     ∷ unsound "word 4 is too high" (but 4 5 two)
     ∷ unsound "word 4 is too low" (but 4 3 two)
