@@ -1,66 +1,14 @@
--- The starred cases of document 01: one table, one statement, `starred`. A row starts from words, makes its calls in order, and compares
--- each answer (the number, then the values) and, where the row gives them, every word of pool, work buffer and answer buffer at the end.
-use mathlib.Core.Bool.{Bool, true, false, _&&_}
+-- The starred cases of document 01: one table, one statement, `starred`.
 use mathlib.Core.List.{List, [], _∷_, _++_, map}
-use mathlib.Core.Option.{Option, none, some}
+use mathlib.Core.Bool.{true}
 use mathlib.Core.Path.{_≡_, refl}
 use Prim.Native.Nat.{ℕ, zero, suc, _+_}
 use lib.ListN.{replicate}
-use Rattle.kdb.specs.Lists.{every, gather, pad, same}
 use Rattle.kdb.specs.Pages.{regionsPer, pointsPer}
 use Rattle.kdb.specs.Pool.{goodLength, goodHeader}
 use Rattle.kdb.specs.Print.{sound}
-use Rattle.kdb.specs.Calls.{Call, format, check, place, remove, find, list, Buffers, outcome, lent}
-use Rattle.kdb.specs.History.{answers}
-
-pub record Row : Type 0 where
-  pub start : List ℕ
-  pub calls : List Call
-  pub told : List (List ℕ)
-  pub pool : Option (List ℕ)
-  pub work : Option (List ℕ)
-  pub answer : Option (List ℕ)
-
--- the buffers after the last call
-abbrev pub ends : List ℕ → List Call → Buffers
-ends w [] = lent w check
-ends w (c ∷ []) = outcome w c .after
-ends w (c ∷ d ∷ cs) = ends (outcome w c .after .pool) (d ∷ cs)
-
-abbrev pub sameAll : List (List ℕ) → List (List ℕ) → Bool
-sameAll [] [] = true
-sameAll [] (b ∷ m) = false
-sameAll (a ∷ l) [] = false
-sameAll (a ∷ l) (b ∷ m) = same a b && sameAll l m
-
-abbrev pub asGiven : Option (List ℕ) → List ℕ → Bool
-asGiven none ws = true
-asGiven (some vs) ws = same vs ws
-
-abbrev pub passes : Row → Bool
-passes r =
-    let b = ends (r .start) (r .calls) in
-    sameAll (map (λ a. a .number ∷ a .values) (answers (r .start) (r .calls))) (r .told)
-    && asGiven (r .pool) (b .pool) && asGiven (r .work) (b .work) && asGiven (r .answer) (b .answer)
-
--- rows: of answers alone; of answers and every word of pool and work; of a list's answer and its slots
-abbrev pub tells : List ℕ → List Call → List (List ℕ) → Row
-tells w cs told = record { start = w; calls = cs; told = told; pool = none; work = none; answer = none }
-
-abbrev pub leaves : List ℕ → List Call → List (List ℕ) → List ℕ → List ℕ → Row
-leaves w cs told pool work = record { start = w; calls = cs; told = told; pool = some pool; work = some work; answer = none }
-
-abbrev pub lists : List ℕ → List ℕ → List ℕ → List ℕ → List ℕ → Row
-lists w v slots told answer =
-    record { start = w; calls = list v slots ∷ []; told = told ∷ []; pool = some w; work = none; answer = some answer }
-
--- words that no call put there
-abbrev pub junk : ℕ → List ℕ
-junk n = replicate n 77
-
--- a pool of these pages, each filled up with zeros
-abbrev pub pool-of : List (List ℕ) → List ℕ
-pool-of ps = gather (pad 32) ps
+use Rattle.kdb.specs.Calls.{Call, format, check, place, remove, find, list, outcome}
+use Rattle.kdb.proofs.Rows.{Row, passAll, tells, turns, leaves, lists, junk, pool-of, done, top, inf}
 
 -- n placings with the keys a, a + 10, .. of K 1, each with its key as location
 abbrev pub tens : ℕ → ℕ → ℕ → List Call
@@ -71,15 +19,6 @@ tens (suc n) words a = place (junk words) (a ∷ []) a ∷ tens n words (a + 10)
 abbrev pub column : ℕ → ℕ → ℕ → ℕ → List Call
 column zero x y l = []
 column (suc n) x y l = place (junk 128) (x ∷ y ∷ []) l ∷ column n x (y + 1) (l + 1)
-
-abbrev pub done : ℕ → List (List ℕ)
-done n = replicate n (0 ∷ [])
-
-abbrev pub top : ℕ
-top = 4294967294
-
-abbrev pub inf : ℕ
-inf = 4294967295
 
 -- case 6 before and after the fifteenth placing, on n pages
 abbrev pub fourteen : ℕ → List (List ℕ) → List ℕ
@@ -92,6 +31,13 @@ abbrev pub fifteen : List ℕ
 fifteen =
     pool-of ((1 ∷ 4 ∷ 3 ∷ 2 ∷ 15 ∷ [])
     ∷ (2 ∷ 7 ∷ 0 ∷ 0 ∷ 10 ∷ 10 ∷ 20 ∷ 20 ∷ 30 ∷ 30 ∷ 40 ∷ 40 ∷ 50 ∷ 50 ∷ 60 ∷ 60 ∷ 70 ∷ 70 ∷ [])
+    ∷ (2 ∷ 8 ∷ 0 ∷ 0 ∷ 80 ∷ 80 ∷ 90 ∷ 90 ∷ 100 ∷ 100 ∷ 110 ∷ 110 ∷ 120 ∷ 120 ∷ 130 ∷ 130 ∷ 140 ∷ 140 ∷ 150 ∷ 150 ∷ [])
+    ∷ (1 ∷ 2 ∷ 0 ∷ 0 ∷ 0 ∷ 80 ∷ 1 ∷ 80 ∷ inf ∷ 2 ∷ []) ∷ [])
+
+abbrev pub without-30 : List ℕ
+without-30 =
+    pool-of ((1 ∷ 4 ∷ 3 ∷ 2 ∷ 14 ∷ [])
+    ∷ (2 ∷ 6 ∷ 0 ∷ 0 ∷ 10 ∷ 10 ∷ 20 ∷ 20 ∷ 40 ∷ 40 ∷ 50 ∷ 50 ∷ 60 ∷ 60 ∷ 70 ∷ 70 ∷ [])
     ∷ (2 ∷ 8 ∷ 0 ∷ 0 ∷ 80 ∷ 80 ∷ 90 ∷ 90 ∷ 100 ∷ 100 ∷ 110 ∷ 110 ∷ 120 ∷ 120 ∷ 130 ∷ 130 ∷ 140 ∷ 140 ∷ 150 ∷ 150 ∷ [])
     ∷ (1 ∷ 2 ∷ 0 ∷ 0 ∷ 0 ∷ 80 ∷ 1 ∷ 80 ∷ inf ∷ 2 ∷ []) ∷ [])
 
@@ -158,66 +104,56 @@ named-twice = pool-of ((1 ∷ 3 ∷ 1 ∷ 2 ∷ []) ∷ (1 ∷ 2 ∷ 0 ∷ 0 ∷
 
 abbrev pub table : List Row
 table =
-    -- 1. format: lengths 64 and 16,384 are taken; 0, 32, 63 and 16,416 give 1
-    record { start = junk 64; calls = format 2 ∷ []; told = (0 ∷ []) ∷ []; pool = some (2 ∷ 2 ∷ replicate 62 0); work = none; answer = none }
-    ∷ tells (junk 16384) (format 1 ∷ check ∷ []) (done 2)
-    ∷ tells [] (format 1 ∷ []) ((1 ∷ []) ∷ [])
-    ∷ tells (junk 32) (format 1 ∷ []) ((1 ∷ []) ∷ [])
-    ∷ tells (junk 63) (format 1 ∷ []) ((1 ∷ []) ∷ [])
-    ∷ tells (junk 16416) (format 1 ∷ []) ((1 ∷ []) ∷ [])
+    -- 1. lengths 64 and 16,384 are taken; 0, 32, 63 and 16,416 give 1
+    turns "1: format of 64 words" (junk 64) (format 2 ∷ []) (done 1) (2 ∷ 2 ∷ replicate 62 0)
+    ∷ tells "1: format of 16,384 words" (junk 16384) (format 1 ∷ check ∷ []) (done 2)
+    ∷ tells "1: format of no words" [] (format 1 ∷ []) ((1 ∷ []) ∷ [])
+    ∷ tells "1: format of 32 words" (junk 32) (format 1 ∷ []) ((1 ∷ []) ∷ [])
+    ∷ tells "1: format of 63 words" (junk 63) (format 1 ∷ []) ((1 ∷ []) ∷ [])
+    ∷ tells "1: format of 16,416 words" (junk 16416) (format 1 ∷ []) ((1 ∷ []) ∷ [])
     -- 2. K 0 and K 5 give 2; K 5 with 63 words gives 1
-    ∷ tells (junk 64) (format 0 ∷ format 5 ∷ []) ((2 ∷ []) ∷ (2 ∷ []) ∷ [])
-    ∷ tells (junk 63) (format 5 ∷ []) ((1 ∷ []) ∷ [])
+    ∷ tells "2: K 0 and K 5" (junk 64) (format 0 ∷ format 5 ∷ []) ((2 ∷ []) ∷ (2 ∷ []) ∷ [])
+    ∷ tells "2: K 5 with 63 words" (junk 63) (format 5 ∷ []) ((1 ∷ []) ∷ [])
     -- 3. the key 4,294,967,294 is placed; 4,294,967,295 gives 4
-    ∷ tells (junk 64) (format 1 ∷ place (junk 64) (top ∷ []) 3 ∷ place (junk 64) (inf ∷ []) 3 ∷ find (top ∷ []) ∷ find (inf ∷ []) ∷ [])
+    ∷ tells "3: the last key and ∞" (junk 64) (format 1 ∷ place (junk 64) (top ∷ []) 3 ∷ place (junk 64) (inf ∷ []) 3 ∷ find (top ∷ []) ∷ find (inf ∷ []) ∷ [])
     ((0 ∷ []) ∷ (0 ∷ []) ∷ (4 ∷ []) ∷ (0 ∷ 3 ∷ 1 ∷ []) ∷ (4 ∷ []) ∷ [])
     -- 4. lower 6, upper 5 gives 5; 5 and 5 is taken; lower 6, upper 4,294,967,295 gives 4
-    ∷ tells (junk 64) (format 1 ∷ list (6 ∷ 5 ∷ []) [] ∷ list (5 ∷ 5 ∷ []) [] ∷ list (6 ∷ inf ∷ []) [] ∷ [])
+    ∷ tells "4: windows" (junk 64) (format 1 ∷ list (6 ∷ 5 ∷ []) [] ∷ list (5 ∷ 5 ∷ []) [] ∷ list (6 ∷ inf ∷ []) [] ∷ [])
     ((0 ∷ []) ∷ (5 ∷ []) ∷ (0 ∷ 0 ∷ 0 ∷ []) ∷ (4 ∷ []) ∷ [])
     -- 5. nothing placed: a list has total 0 and reads 0
-    ∷ lists (2 ∷ 2 ∷ replicate 62 0) (0 ∷ 0 ∷ top ∷ top ∷ []) (9 ∷ 9 ∷ []) (0 ∷ 0 ∷ 0 ∷ []) (9 ∷ 9 ∷ [])
+    ∷ lists "5: nothing placed" (2 ∷ 2 ∷ replicate 62 0) (0 ∷ 0 ∷ top ∷ top ∷ []) (9 ∷ 9 ∷ []) (0 ∷ 0 ∷ 0 ∷ []) (9 ∷ 9 ∷ [])
     -- 6. K 1, keys 10, 20 .. 150 in order: the fifteenth cuts at 80
-    ∷ leaves (junk 128) (format 1 ∷ tens 15 128 10) (done 16) fifteen (fourteen 4 ([] ∷ [] ∷ []))
+    ∷ leaves "6: the fifteenth key" (junk 128) (format 1 ∷ tens 15 128 10) (done 16) fifteen (fourteen 4 ([] ∷ [] ∷ []))
     -- 7. the same with N = 3: the fifteenth gives 9
-    ∷ leaves (junk 96) (format 1 ∷ tens 15 96 10) (done 15 ++ ((9 ∷ []) ∷ [])) (fourteen 3 ([] ∷ [])) (fourteen 3 ([] ∷ []))
+    ∷ leaves "7: the same with N = 3" (junk 96) (format 1 ∷ tens 15 96 10) (done 15 ++ ((9 ∷ []) ∷ [])) (fourteen 3 ([] ∷ [])) (fourteen 3 ([] ∷ []))
     -- 8. in case 6, window 80 to 80 reads 2 pages, total 1; 79 to 80 reads 3, total 1; 70 to 79 reads 2, total 1
-    ∷ lists fifteen (80 ∷ 80 ∷ []) (9 ∷ 9 ∷ []) (0 ∷ 1 ∷ 2 ∷ []) (80 ∷ 9 ∷ [])
-    ∷ lists fifteen (79 ∷ 80 ∷ []) (9 ∷ 9 ∷ []) (0 ∷ 1 ∷ 3 ∷ []) (80 ∷ 9 ∷ [])
-    ∷ lists fifteen (70 ∷ 79 ∷ []) (9 ∷ 9 ∷ []) (0 ∷ 1 ∷ 2 ∷ []) (70 ∷ 9 ∷ [])
+    ∷ lists "8: 80 to 80" fifteen (80 ∷ 80 ∷ []) (9 ∷ 9 ∷ []) (0 ∷ 1 ∷ 2 ∷ []) (80 ∷ 9 ∷ [])
+    ∷ lists "8: 79 to 80" fifteen (79 ∷ 80 ∷ []) (9 ∷ 9 ∷ []) (0 ∷ 1 ∷ 3 ∷ []) (80 ∷ 9 ∷ [])
+    ∷ lists "8: 70 to 79" fifteen (70 ∷ 79 ∷ []) (9 ∷ 9 ∷ []) (0 ∷ 1 ∷ 2 ∷ []) (70 ∷ 9 ∷ [])
     -- 9. K 2, ten points with first key 5 and second keys 0 to 9: the cut is 5 in domain 1; both pages get domain 0
-    ∷ leaves (junk 128) (format 2 ∷ column 10 5 0 100) (done 11) ten-fives nine-fives
+    ∷ leaves "9: ten first keys of 5" (junk 128) (format 2 ∷ column 10 5 0 100) (done 11) ten-fives nine-fives
     -- 10. K 2, first keys nine 3s and one 8, second keys all different: the cut is 8 in domain 0, nine left and one right
-    ∷ leaves (junk 128) (format 2 ∷ (column 9 3 0 200 ++ column 1 8 9 209)) (done 11) one-eight nine-threes
+    ∷ leaves "10: nine 3s and one 8" (junk 128) (format 2 ∷ (column 9 3 0 200 ++ column 1 8 9 209)) (done 11) one-eight nine-threes
     -- besides the ten: a chosen split of a region page with a crossing entry
-    ∷ leaves uncrossed (place (junk 352) (27 ∷ 7 ∷ []) 29 ∷ []) (done 1) crossed uncrossed
-    ∷ tells crossed (check ∷ []) (done 1)
+    ∷ leaves "one crossing entry" uncrossed (place (junk 352) (27 ∷ 7 ∷ []) 29 ∷ []) (done 1) crossed uncrossed
+    ∷ tells "one crossing entry, checked" crossed (check ∷ []) (done 1)
     -- a remove closes the gap, keeps the order and lowers word 4
-    ∷ record {
-      start = fifteen;
-      calls = remove (30 ∷ []) ∷ [];
-      told = (0 ∷ 30 ∷ []) ∷ [];
-      pool = some (pool-of ((1 ∷ 4 ∷ 3 ∷ 2 ∷ 14 ∷ [])
-          ∷ (2 ∷ 6 ∷ 0 ∷ 0 ∷ 10 ∷ 10 ∷ 20 ∷ 20 ∷ 40 ∷ 40 ∷ 50 ∷ 50 ∷ 60 ∷ 60 ∷ 70 ∷ 70 ∷ [])
-          ∷ (2 ∷ 8 ∷ 0 ∷ 0 ∷ 80 ∷ 80 ∷ 90 ∷ 90 ∷ 100 ∷ 100 ∷ 110 ∷ 110 ∷ 120 ∷ 120 ∷ 130 ∷ 130 ∷ 140 ∷ 140 ∷ 150 ∷ 150 ∷ [])
-          ∷ (1 ∷ 2 ∷ 0 ∷ 0 ∷ 0 ∷ 80 ∷ 1 ∷ 80 ∷ inf ∷ 2 ∷ []) ∷ []));
-      work = none;
-      answer = none;
-    }
+    ∷ turns "remove of 30" fifteen (remove (30 ∷ []) ∷ []) ((0 ∷ 30 ∷ []) ∷ []) without-30
     -- a refused place leaves work
-    ∷ leaves fifteen (place (junk 128) (80 ∷ []) 5 ∷ []) ((7 ∷ []) ∷ []) fifteen (junk 128)
-    ∷ leaves fifteen (place (junk 128) (inf ∷ []) 5 ∷ []) ((4 ∷ []) ∷ []) fifteen (junk 128)
-    ∷ leaves fifteen (place (junk 96) (5 ∷ []) 5 ∷ []) ((3 ∷ []) ∷ []) fifteen (junk 96)
+    ∷ leaves "place of a key that is there" fifteen (place (junk 128) (80 ∷ []) 5 ∷ []) ((7 ∷ []) ∷ []) fifteen (junk 128)
+    ∷ leaves "place of ∞" fifteen (place (junk 128) (inf ∷ []) 5 ∷ []) ((4 ∷ []) ∷ []) fifteen (junk 128)
+    ∷ leaves "place with a short work buffer" fifteen (place (junk 96) (5 ∷ []) 5 ∷ []) ((3 ∷ []) ∷ []) fifteen (junk 96)
     -- a bad page: 6, every slot 0
-    ∷ lists (one-entry inf []) (0 ∷ top ∷ []) (9 ∷ 9 ∷ []) (6 ∷ []) (0 ∷ 0 ∷ [])
+    ∷ lists "list at a free page" (one-entry inf []) (0 ∷ top ∷ []) (9 ∷ 9 ∷ []) (6 ∷ []) (0 ∷ 0 ∷ [])
     -- pages 1, 2 and 2 again would be N pages read: 6, every slot 0; a find reads 2
-    ∷ lists named-twice (0 ∷ top ∷ []) (9 ∷ 9 ∷ []) (6 ∷ []) (0 ∷ 0 ∷ [])
-    ∷ tells named-twice (find (5 ∷ []) ∷ []) ((0 ∷ 7 ∷ 2 ∷ []) ∷ [])
+    ∷ lists "list of N pages" named-twice (0 ∷ top ∷ []) (9 ∷ 9 ∷ []) (6 ∷ []) (0 ∷ 0 ∷ [])
+    ∷ tells "find in a page named twice" named-twice (find (5 ∷ []) ∷ []) ((0 ∷ 7 ∷ 2 ∷ []) ∷ [])
     -- no entry holds the point: find 6; the window meets no entry: one page read, the slots unchanged
-    ∷ tells (one-entry 10 (2 ∷ [])) (find (20 ∷ []) ∷ []) ((6 ∷ []) ∷ [])
-    ∷ lists (one-entry 10 (2 ∷ [])) (20 ∷ 20 ∷ []) (9 ∷ 9 ∷ []) (0 ∷ 0 ∷ 1 ∷ []) (9 ∷ 9 ∷ [])
+    ∷ tells "find where no entry holds the point" (one-entry 10 (2 ∷ [])) (find (20 ∷ []) ∷ []) ((6 ∷ []) ∷ [])
+    ∷ lists "list where no entry meets the window" (one-entry 10 (2 ∷ [])) (20 ∷ 20 ∷ []) (9 ∷ 9 ∷ []) (0 ∷ 0 ∷ 1 ∷ []) (9 ∷ 9 ∷ [])
     ∷ []
 
-pub starred : every passes table ≡ true
+pub starred : passAll table ≡ true
 unfolding outcome goodLength goodHeader sound
 starred = refl
 

@@ -27,6 +27,9 @@ pub mod Client
 pub mod Reading
 pub mod Own
 pub mod Windows
+pub mod Rows
 pub mod Cases
+pub mod Choices
+pub mod Spoilt
 pub mod Sessions
 pub mod Words
