@@ -49,7 +49,8 @@ static void list(uint32_t from, uint32_t to, uint32_t lightest, uint32_t heavies
     printf("list %" PRIu32 " to %" PRIu32 " ms, masses %" PRIu32 " to %" PRIu32 ": %" PRIu32, from, to, lightest,
            heaviest, listed.number);
     if (listed.number == KORYTANKA_DONE) {
-        printf(", total %" PRIu32 ", pages read %" PRIu32 ", locations", listed.total, listed.reads);
+        printf(", total %" PRIu32 ", pages read %" PRIu32 "%s", listed.total, listed.reads,
+               listed.total > 0 ? ", locations" : "");
         for (uint32_t i = 0; i < listed.total && i < SLOTS; i++)
             printf(" %" PRIu32, answer[i]);
         if (listed.total > SLOTS)
@@ -77,8 +78,8 @@ int main(void) {
     find(120000, 195088);
     find(120001, 195088);
 
-    /* Caffeine lies on the edge between two pages. It is listed, whichever side the window comes from, and a window that
-     * ends one millisecond before it reads one page less. */
+    /* Caffeine lies on the edge between two pages, and is listed whichever side the window comes from. A window that ends
+     * a millisecond before it does not read its page. */
     list(120000, 120000, 0, 500000);
     list(120000, 180000, 195000, 195200);
     list(95000, 120000, 195000, 195200);

@@ -330,7 +330,7 @@ fn a_pool_is_stored_and_opened_again() {
 /// Check, find and list by four threads on one pool.
 #[test]
 fn many_threads_read_one_pool() {
-    let mut pool = Pool::new(2, 64).unwrap();
+    let mut pool = Pool::new(2, 128).unwrap();
     for key in 0..200 {
         pool.place(&[key * 37 % 200, key], key).unwrap();
     }
