@@ -1,6 +1,6 @@
 //! What a run has met, and what it has to have met.
 
-use crate::sequences::{AFTER_9, HISTORIES, HISTORY};
+use crate::sequences::{histories, AFTER_9, HISTORY};
 use crate::spoilt::KINDS;
 use crate::step::CALLS;
 use std::collections::BTreeSet;
@@ -159,7 +159,7 @@ impl Counts {
             (
                 "whole histories on 512 pages".into(),
                 self.histories,
-                (4 * HISTORIES.len()) as u64,
+                histories().len() as u64,
             ),
             (
                 "calls in whole histories".into(),

@@ -103,7 +103,7 @@ pub const FAULTS: [(&str, &str); 53] = [
         "length-16",
         "the pool's length is taken by its last 16 bits",
     ),
-    ("place-many", "word 4 stays at 3000 records"),
+    ("place-many", "word 4 stays at 1000 records"),
     ("writes-behind", "place writes the word behind the pool"),
     ("panics", "place panics where three pages are claimed"),
     ("aborts", "the process dies where three pages are claimed"),
@@ -393,7 +393,7 @@ impl Broken {
                     }
                 }
             }
-            "place-many" => pool[4] = pool[4].min(3000),
+            "place-many" => pool[4] = pool[4].min(1000),
             "writes-behind" => {
                 let end = pool.as_mut_ptr_range().end;
                 // Safe only because this program's own guard words stand there.

@@ -7,7 +7,7 @@ use crate::index::Index;
 use crate::long::long;
 use crate::random::{Random, Shape, SHAPES};
 use crate::run::{self, Failure, Outcome, Run, Watch};
-use crate::sequences::{case_11, history, sequence, Plan, Start, HISTORIES};
+use crate::sequences::{case_11, histories, history, sequence, Plan, Start};
 use crate::spoilt::spoilt;
 use crate::step::Step;
 use std::sync::atomic::{AtomicBool, AtomicUsize, Ordering};
@@ -145,13 +145,15 @@ pub fn round(seed: u64, round: u64) -> Vec<Job> {
     }
     jobs.extend((1..=4).map(|k| Job::Long { k }));
     random.shuffle(&mut jobs);
-    // The longest come first, so that no thread is left with one at the end.
-    let histories = HISTORIES.into_iter();
-    let mut all: Vec<Job> = histories
-        .flat_map(|shape| (1..=4).map(move |k| Job::History { k, shape }))
-        .collect();
-    all.append(&mut jobs);
-    all
+    // The longest jobs: early, so that no thread is left with one at the end, but behind short ones, whose failures are
+    // cut down sooner.
+    let early = jobs.len() / 8;
+    let all = histories().into_iter();
+    jobs.splice(
+        early..early,
+        all.map(|(k, shape)| Job::History { k, shape }),
+    );
+    jobs
 }
 
 /// What is compared: the second program, the other one, and the other frame program if there is one.

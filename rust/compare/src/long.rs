@@ -25,7 +25,7 @@ pub fn long(run: &mut Run, random: Random, k: usize) -> Outcome {
         let pages = (length / 32) as u32;
         let cut = length % 65_536 / 32;
         let n = if (2..=512).contains(&cut) { cut } else { 512 };
-        let records = random.from(1, 4 * n);
+        let records = random.from(1, 60);
         let front = pools::built(&mut random, &mut keys, k, n, records).print();
         let junk: Vec<u32> = (0..length).map(|_| random.word()).collect();
         let mut empty = vec![0; length];

@@ -40,15 +40,22 @@ const PHASES: [[usize; 6]; 5] = [
 /// The shares of a history's calls before its first 9: it grows.
 const GROWING: [usize; 6] = [76, 5, 7, 8, 1, 3];
 /// The calls of a history: at least so many, and at least so many after its first 9.
-pub const HISTORY: u64 = 4000;
-pub const AFTER_9: u64 = 1500;
-/// The shapes of the keys of histories.
-pub const HISTORIES: [Shape; 4] = [
-    Shape::Uniform,
-    Shape::Clustered,
-    Shape::Rising,
-    Shape::Ascending,
-];
+pub const HISTORY: u64 = 3000;
+pub const AFTER_9: u64 = 1000;
+
+/// The histories, by K and the shape of the keys. With one key `Rising` is `Ascending`.
+pub fn histories() -> Vec<(usize, Shape)> {
+    let shapes = [
+        Shape::Uniform,
+        Shape::Clustered,
+        Shape::Ascending,
+        Shape::Rising,
+    ];
+    let all = shapes
+        .into_iter()
+        .flat_map(|shape| (1..=4).map(move |k| (k, shape)));
+    all.filter(|which| *which != (1, Shape::Rising)).collect()
+}
 
 struct Sequence<'r, 'a> {
     run: &'r mut Run<'a>,
