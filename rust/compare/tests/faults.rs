@@ -7,6 +7,7 @@ use compare::jobs::{cut_down, small, work, Compared, Job};
 use compare::random::{Random, Shape};
 use compare::run::{fails, Failure};
 use compare::step::{parse_all, Step};
+use std::process::Command;
 use std::time::Duration;
 
 fn indexes<'a>(right: &'a dyn Index, other: &'a dyn Index) -> Compared<'a> {
@@ -38,7 +39,7 @@ fn seen(name: &str, compared: Compared) -> Option<Box<Failure>> {
 #[test]
 fn every_fault_is_seen_and_cut_down() {
     for (name, fault) in FAULTS {
-        // This one ends the process.
+        // This one ends the process: below.
         if name == "aborts" {
             continue;
         }
@@ -56,6 +57,24 @@ fn every_fault_is_seen_and_cut_down() {
         // Without the fault there is nothing to see.
         assert_eq!(fails(&Second, &Second, &steps), None, "{name}");
     }
+}
+
+/// A working process that dies is seen, and the calls that bring it about are cut down.
+#[test]
+fn a_death_is_seen_and_cut_down() {
+    let run = |words: &[&str]| {
+        let mut command = Command::new(env!("CARGO_BIN_EXE_compare"));
+        let done = command.args(words).output().expect("it starts");
+        (
+            done.status.code(),
+            String::from_utf8_lossy(&done.stdout).into_owned(),
+        )
+    };
+    let (code, text) = run(&["--fault", "aborts", "--threads", "2"]);
+    assert_eq!(code, Some(1), "{text}");
+    assert!(text.contains("the last one shows: death"), "{text}");
+    let steps = parse_all(&text).expect("steps");
+    assert_eq!(fails(&Second, &Second, &steps), None);
 }
 
 /// The steps made of their own text.

@@ -9,8 +9,9 @@
 //! buffer afterwards. This crate lends them slices. What C leaves to its caller, buffers that do not overlap and true
 //! lengths, the borrow checker sees to here, so every function is safe.
 //!
-//! The functions are lent a pool and allocate nothing. A [`Pool`] owns its words and the work buffer, and its methods are
-//! the same calls. [`raw`] has them as C has them, with numbers.
+//! The functions are lent a pool and allocate nothing. A [`Pool`] owns its words and the work buffer, and its methods
+//! are the same calls. [`raw`] has them as C has them, with numbers. include/korytanka.h says how many records fit in a
+//! pool, and what to do when it is full or not sound.
 //!
 //! ```
 //! # fn main() -> Result<(), korytanka::Refusal> {
@@ -102,14 +103,15 @@ pub enum Refusal {
     InfiniteKey = 4,
     /// 5: a lower end of a window is above its upper end.
     WindowOrder = 5,
-    /// 6: the header is not good, the pool is not sound, or a walk met a bad page. No call mends it: take a stored copy.
+    /// 6: the header is not good, the pool is not sound, or a walk met a bad page. No call mends it: take a stored
+    /// copy.
     Unsound = 6,
     /// 7: the point is already there.
     Present = 7,
     /// 8: the point is not there.
     Absent = 8,
-    /// 9: placing would need a page, and none is free. Removing frees none: for more room, place the records in a pool of
-    /// more pages.
+    /// 9: placing would need a page, and none is free. Removing frees none: for more room, place the records in a pool
+    /// of more pages.
     NoFreePage = 9,
 }
 

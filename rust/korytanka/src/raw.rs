@@ -1,8 +1,8 @@
 //! The calls as include/korytanka.h declares them: a number, and behind it the fields, 0 after every refusal.
 //!
-//! The functions of the crate's root are these with a [`Result`](std::result::Result) made of number and fields. They are
-//! the one place where the library is called. Each `unsafe` block is one call. What the header leaves to the caller holds
-//! because every pointer and length is a slice's own, and a `&mut` slice overlaps no other.
+//! The functions of the crate's root make a [`Result`] of number and fields. The library is called here and nowhere else:
+//! each `unsafe` block is one call. What the header leaves to the caller holds because every pointer and length is a
+//! slice's own, and a `&mut` slice overlaps no other.
 
 /// What [`remove`] returns.
 #[derive(Clone, Copy, Debug, PartialEq, Eq)]
