@@ -1,5 +1,6 @@
 //! What a run has met, and what it has to have met.
 
+use crate::sequences::{histories, AFTER_9, HISTORY};
 use crate::spoilt::KINDS;
 use crate::step::CALLS;
 use std::collections::BTreeSet;
@@ -17,7 +18,7 @@ pub struct SpoiltCount {
 pub struct Counts {
     /// By call and number.
     pub answers: [[u64; 10]; 6],
-    /// Calls within sequences; the others are on spoilt pools.
+    /// Calls within sequences; the others are on spoilt and long pools and in histories.
     pub in_sequences: u64,
     pub sequences: u64,
     /// The pairs of K and N that sequences ran on.
@@ -34,6 +35,16 @@ pub struct Counts {
     pub none_free: [u64; 4],
     /// Case 11: placings whose forced split left an empty point page, which was then read.
     pub empty_read: u64,
+    /// Whole histories on 512 pages, the calls in them, those that went on after their first 9, and the records that
+    /// were placed in these afterwards.
+    pub histories: u64,
+    pub in_histories: u64,
+    pub went_on: u64,
+    pub placed_later: u64,
+    /// Pools of more than 16,384 words; the calls on such, and those of them that answer 1.
+    pub long_pools: u64,
+    pub long: [u64; 6],
+    pub long_refused: u64,
     pub sessions: u64,
     pub lines: u64,
     pub malformed: u64,
@@ -64,6 +75,15 @@ impl Counts {
         self.sequences += other.sequences;
         self.bound += other.bound;
         self.empty_read += other.empty_read;
+        for (count, from) in self.long.iter_mut().zip(&other.long) {
+            *count += from;
+        }
+        self.long_pools += other.long_pools;
+        self.long_refused += other.long_refused;
+        self.histories += other.histories;
+        self.in_histories += other.in_histories;
+        self.went_on += other.went_on;
+        self.placed_later += other.placed_later;
         self.sessions += other.sessions;
         self.lines += other.lines;
         self.malformed += other.malformed;
@@ -71,6 +91,12 @@ impl Counts {
 
     pub fn calls(&self) -> u64 {
         self.answers.iter().flatten().sum()
+    }
+
+    /// Refusals of the calls that return more than a number.
+    fn bare(&self) -> u64 {
+        let rows = self.answers[3..].iter();
+        rows.map(|row| row[1..].iter().sum::<u64>()).sum()
     }
 
     fn spoilt_sum(&self) -> SpoiltCount {
@@ -114,6 +140,41 @@ impl Counts {
                 "pairs of K and N with sequences".into(),
                 self.sizes.len() as u64,
                 4 * 511,
+            ),
+            (
+                "refusals of remove, find and list, the fields behind the number compared".into(),
+                self.bare(),
+                100_000,
+            ),
+            (
+                "pools of more than 16,384 words".into(),
+                self.long_pools,
+                500,
+            ),
+            (
+                "calls of each kind on such pools, at least".into(),
+                self.long.into_iter().min().unwrap_or(0),
+                500,
+            ),
+            (
+                "whole histories on 512 pages".into(),
+                self.histories,
+                histories().len() as u64,
+            ),
+            (
+                "calls in whole histories".into(),
+                self.in_histories,
+                self.histories * HISTORY,
+            ),
+            (
+                format!("whole histories that went on for {AFTER_9} calls after their first 9"),
+                self.went_on,
+                self.histories,
+            ),
+            (
+                "records placed in them after their first 9".into(),
+                self.placed_later,
+                100 * self.histories,
             ),
         ];
         if frames {
@@ -170,6 +231,11 @@ impl Counts {
         println!(
             "sequences: {}, calls in them: {}, most levels: {}",
             self.sequences, self.in_sequences, self.most_levels
+        );
+        println!(
+            "calls on pools of more than 16,384 words: {}, of these refused with 1: {}",
+            self.long.iter().sum::<u64>(),
+            self.long_refused
         );
         println!(
             "answers 9 after no claim: {}, one: {}, two: {}, more: {}",

@@ -8,7 +8,7 @@ use second::words::{header, open, Opened, PAGE};
 use second::{Node, Record};
 
 /// Broken indexes: name and fault.
-pub const FAULTS: [(&str, &str); 47] = [
+pub const FAULTS: [(&str, &str); 53] = [
     ("format-order", "format tests K before the length"),
     ("format-leaves", "format leaves the last page as it was"),
     ("check-sum", "check does not look at word 4"),
@@ -95,6 +95,15 @@ pub const FAULTS: [(&str, &str); 47] = [
     ("order-5-4", "the window's order is tested before infinity"),
     ("order-6-3", "place tests soundness before the lengths"),
     ("window-5", "equal ends of a window are refused"),
+    ("remove-fields", "remove returns a location after 8"),
+    ("find-fields", "find returns the pages read after 8"),
+    ("list-fields", "list returns the pages read after 6"),
+    ("format-514", "format takes 514 pages"),
+    (
+        "length-16",
+        "the pool's length is taken by its last 16 bits",
+    ),
+    ("place-many", "word 4 stays at 1000 records"),
     ("writes-behind", "place writes the word behind the pool"),
     ("panics", "place panics where three pages are claimed"),
     ("aborts", "the process dies where three pages are claimed"),
@@ -134,6 +143,15 @@ fn refused(number: u32) -> Answer {
     Answer {
         number,
         values: [0, 0],
+    }
+}
+
+/// The words that are taken for the pool.
+fn taken(broken: &Broken, pool: &[u32]) -> usize {
+    if broken.is("length-16") {
+        pool.len() % 65_536
+    } else {
+        pool.len()
     }
 }
 
@@ -375,6 +393,7 @@ impl Broken {
                     }
                 }
             }
+            "place-many" => pool[4] = pool[4].min(1000),
             "writes-behind" => {
                 let end = pool.as_mut_ptr_range().end;
                 // Safe only because this program's own guard words stand there.
@@ -427,6 +446,13 @@ impl Index for Broken {
         if self.is("format-order") && !(1..=4).contains(&k) {
             return refused(2);
         }
+        if self.is("format-514") && pool.len() == 514 * PAGE && (1..=4).contains(&k) {
+            pool.fill(0);
+            pool[..2].copy_from_slice(&[k, 514]);
+            return refused(0);
+        }
+        let taken = taken(self, pool);
+        let pool = &mut pool[..taken];
         let before = pool.to_vec();
         let answer = Second.format(pool, k);
         if self.is("format-leaves") && answer.number == 0 {
@@ -437,6 +463,7 @@ impl Index for Broken {
     }
 
     fn check(&self, pool: &[u32]) -> Answer {
+        let pool = &pool[..taken(self, pool)];
         let answer = Second.check(&self.blind(pool));
         if self.is("check-pinwheel") && answer.number == 0 && has_pinwheel(pool) {
             return refused(6);
@@ -464,7 +491,11 @@ impl Index for Broken {
         let before = pool.to_vec();
         let answer = Second.remove(pool, point);
         if answer.number != 0 {
-            return answer;
+            let stray = self.is("remove-fields") && answer.number == 8;
+            return Answer {
+                values: [u32::from(stray), 0],
+                ..answer
+            };
         }
         let changed = (1..pool.len() / PAGE)
             .find(|p| before[PAGE * p..PAGE * (p + 1)] != pool[PAGE * p..PAGE * (p + 1)]);
@@ -519,6 +550,7 @@ impl Index for Broken {
                     answer.values[0] = slots[listed.values[0] as usize - 1];
                 }
             }
+            ("find-fields", 8) => answer.values[1] = pool[3],
             ("find-deep", 0) if answer.values[1] > 100 => return refused(6),
             _ => {}
         }
@@ -552,6 +584,10 @@ impl Index for Broken {
                 listed.values[1] = reads;
                 listed
             }
+            ("list-fields", 6) => Answer {
+                values: [0, 1],
+                ..listed
+            },
             ("list-slots-bad", 6) => {
                 answer.copy_from_slice(&before);
                 listed

@@ -1,8 +1,9 @@
 //! The six calls as both programs are asked for them.
 
+use korytanka::raw;
 use second::calls;
 
-/// What a call answers: its number, and the returned values, 0 where there are none.
+/// What a call answers: its number, and the returned values, 0 where there are none, so after every refusal.
 /// Remove returns a location; find a location and the pages read; list the total and the pages read.
 #[derive(Clone, Copy, Debug, Default, PartialEq, Eq)]
 pub struct Answer {
@@ -84,7 +85,55 @@ macro_rules! index {
 
 index!(Second, calls);
 
-/// The proved library, by way of its safe binding.
+/// The proved library by way of its safe binding.
+pub struct Bound;
+
+index!(Bound, korytanka);
+
+/// The proved library: the number and the fields as they come out of it, the fields after a refusal too.
 pub struct Proved;
 
-index!(Proved, korytanka);
+fn only(number: u32) -> Answer {
+    Answer {
+        number,
+        values: [0, 0],
+    }
+}
+
+impl Index for Proved {
+    fn format(&self, pool: &mut [u32], k: u32) -> Answer {
+        only(raw::format(pool, k))
+    }
+
+    fn check(&self, pool: &[u32]) -> Answer {
+        only(raw::check(pool))
+    }
+
+    fn place(&self, pool: &mut [u32], work: &mut [u32], point: &[u32], location: u32) -> Answer {
+        only(raw::place(pool, work, point, location))
+    }
+
+    fn remove(&self, pool: &mut [u32], point: &[u32]) -> Answer {
+        let removed = raw::remove(pool, point);
+        Answer {
+            number: removed.number,
+            values: [removed.location, 0],
+        }
+    }
+
+    fn find(&self, pool: &[u32], point: &[u32]) -> Answer {
+        let found = raw::find(pool, point);
+        Answer {
+            number: found.number,
+            values: [found.location, found.reads],
+        }
+    }
+
+    fn list(&self, pool: &[u32], window: &[u32], slots: &mut [u32]) -> Answer {
+        let listed = raw::list(pool, window, slots);
+        Answer {
+            number: listed.number,
+            values: [listed.total, listed.reads],
+        }
+    }
+}

@@ -4,9 +4,10 @@ use crate::counts::Counts;
 use crate::cut::cut;
 use crate::frames::{self, Program};
 use crate::index::Index;
-use crate::random::{Random, SHAPES};
+use crate::long::long;
+use crate::random::{Random, Shape, SHAPES};
 use crate::run::{self, Failure, Outcome, Run, Watch};
-use crate::sequences::{case_11, sequence, Plan, Start};
+use crate::sequences::{case_11, histories, history, sequence, Plan, Start};
 use crate::spoilt::spoilt;
 use crate::step::Step;
 use std::sync::atomic::{AtomicBool, AtomicUsize, Ordering};
@@ -23,6 +24,15 @@ pub enum Job {
         k: usize,
         n: usize,
         pools: usize,
+    },
+    /// A whole history on 512 pages.
+    History {
+        k: usize,
+        shape: Shape,
+    },
+    /// Pools longer than any that is taken.
+    Long {
+        k: usize,
     },
     /// Sessions of about so many lines.
     Frames {
@@ -133,7 +143,16 @@ pub fn round(seed: u64, round: u64) -> Vec<Job> {
             },
         });
     }
+    jobs.extend((1..=4).map(|k| Job::Long { k }));
     random.shuffle(&mut jobs);
+    // The longest jobs: early, so that no thread is left with one at the end, but behind short ones, whose failures are
+    // cut down sooner.
+    let early = jobs.len() / 8;
+    let all = histories().into_iter();
+    jobs.splice(
+        early..early,
+        all.map(|(k, shape)| Job::History { k, shape }),
+    );
     jobs
 }
 
@@ -159,6 +178,8 @@ pub fn work(
     match job {
         Job::Case11 => case_11(&mut run, random)?,
         Job::Sequence(plan) => sequence(&mut run, random, plan)?,
+        Job::History { k, shape } => history(&mut run, random, k, shape)?,
+        Job::Long { k } => long(&mut run, random, k)?,
         Job::Spoilt { k, n, pools } => spoilt(&mut run, random, k, n, pools)?,
         Job::Frames { sessions, lines } => {
             if let Some(program) = compared.program {

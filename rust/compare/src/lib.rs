@@ -5,7 +5,7 @@
 //! - `pair`: two programs side by side, every word compared.
 //! - `run`: a sequence as it is taken, written down and counted.
 //! - `random`, `pools`: keys and pools to start from.
-//! - `sequences`, `spoilt`, `frames`: the three parts of the comparison.
+//! - `sequences`, `spoilt`, `long`, `frames`: the parts of the comparison.
 //! - `jobs`: the jobs of a round and the threads that do them.
 //! - `counts`: what was met and what has to be.
 //! - `cut`: a failing sequence cut down.
@@ -18,6 +18,7 @@ pub mod faults;
 pub mod frames;
 pub mod index;
 pub mod jobs;
+pub mod long;
 pub mod pair;
 pub mod pools;
 pub mod random;

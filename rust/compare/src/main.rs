@@ -2,11 +2,14 @@
 //!
 //! Both get the same calls over buffers of their own. After each call the number, the returned numbers, every word of
 //! the pool, of the work buffer and of the answer buffer, the words around them, and the point or window have to be
-//! the same on both sides. There are three parts:
+//! the same on both sides. The returned numbers are the library's fields as C gets them, so that they are compared
+//! after a refusal, too. There are five parts:
 //!
 //! - Sequences: long runs of calls on pools of every K and every N, with keys of many shapes, and with refused calls
 //!   of every kind among them. Pools run full, are emptied and filled again.
+//! - Histories: one format of 512 pages and thousands of calls from there, past the first 9.
 //! - Spoilt pools: pools whose words were changed in some way, from one word to all, and every call on each.
+//! - Long pools: every call on pools of more than 16,384 words.
 //! - Frames: sessions of lines, malformed ones too, for the frame program (`--program`) and the second program's.
 //!
 //! A round has a fixed plan of jobs; what they do depends on the seed alone, however many threads there are. At the

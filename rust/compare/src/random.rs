@@ -76,6 +76,8 @@ pub enum Shape {
     /// Rising in all domains at once: pools run full quickly and trees become deep.
     Ascending,
     Descending,
+    /// The first key rises, the others are any, as signals come in. Only whole histories have it.
+    Rising,
     /// At and near 0 and 4,294,967,294.
     Ends,
     /// For a while only one domain varies, so that cuts of different domains come to lie across each other.
@@ -103,6 +105,8 @@ pub struct Keys {
     values: u32,
     strides: Vec<u32>,
     centres: Vec<Vec<u32>>,
+    /// The width of a cluster.
+    pub spread: u32,
     base: Vec<u32>,
     varied: usize,
     width: u32,
@@ -127,6 +131,7 @@ impl Keys {
             },
             strides: (0..k).map(|_| 1 + random.word_below(stride)).collect(),
             centres,
+            spread: 40,
             base: vec![0; k],
             varied: 0,
             width: 1,
@@ -163,9 +168,12 @@ impl Keys {
                 Shape::Uniform | Shape::Mixed => random.key(),
                 Shape::Tied => random.word_below(self.values),
                 Shape::Clustered => self.centres[centre][d]
-                    .saturating_add(random.word_below(40))
+                    .saturating_add(random.word_below(self.spread))
                     .min(TOP),
-                Shape::Ascending => self.step.saturating_mul(self.strides[d]).min(TOP),
+                Shape::Rising if d > 0 => random.key(),
+                Shape::Ascending | Shape::Rising => {
+                    self.step.saturating_mul(self.strides[d]).min(TOP)
+                }
                 Shape::Descending => TOP - self.step.saturating_mul(self.strides[d]).min(TOP),
                 Shape::Ends => match random.below(8) {
                     0 => 0,

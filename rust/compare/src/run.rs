@@ -6,6 +6,9 @@ use crate::pair::Pair;
 use crate::step::{words_steps, Step};
 use second::words::{header, page, Header, PAGE};
 
+/// The words of the longest pool.
+pub const MOST_WORDS: usize = 512 * PAGE;
+
 /// A sequence that fails, and what it shows.
 #[derive(Debug)]
 pub struct Failure {
@@ -78,6 +81,10 @@ impl<'a> Run<'a> {
             Ok(Some(answer)) => {
                 let call = step.call().unwrap_or(0);
                 self.counts.answers[call][answer.number.min(9) as usize] += 1;
+                if self.pair.pool().len() > MOST_WORDS {
+                    self.counts.long[call] += 1;
+                    self.counts.long_refused += u64::from(answer.number == 1);
+                }
                 if call == 2 && answer.number == 9 {
                     let free = free_pages(self.pair.pool());
                     self.counts.none_free[free.min(3)] += 1;

@@ -1,4 +1,4 @@
-//! Long random sequences of calls, refused calls of every kind among them.
+//! Long random sequences of calls, refused calls of every kind among them, and whole histories of one pool.
 
 use crate::index::Answer;
 use crate::pools;
@@ -37,12 +37,34 @@ const PHASES: [[usize; 6]; 5] = [
     [12, 4, 34, 38, 2, 10],
 ];
 
+/// The shares of a history's calls before its first 9: it grows.
+const GROWING: [usize; 6] = [76, 5, 7, 8, 1, 3];
+/// The calls of a history: at least so many, and at least so many after its first 9.
+pub const HISTORY: u64 = 3000;
+pub const AFTER_9: u64 = 1000;
+
+/// The histories, by K and the shape of the keys. With one key `Rising` is `Ascending`.
+pub fn histories() -> Vec<(usize, Shape)> {
+    let shapes = [
+        Shape::Uniform,
+        Shape::Clustered,
+        Shape::Ascending,
+        Shape::Rising,
+    ];
+    let all = shapes
+        .into_iter()
+        .flat_map(|shape| (1..=4).map(move |k| (k, shape)));
+    all.filter(|which| *which != (1, Shape::Rising)).collect()
+}
+
 struct Sequence<'r, 'a> {
     run: &'r mut Run<'a>,
     random: Random,
     keys: Keys,
     k: usize,
     n: usize,
+    /// May it be formatted again?
+    again: bool,
     /// Points that are there, and some that were removed.
     live: Vec<Vec<u32>>,
     gone: Vec<Vec<u32>>,
@@ -121,6 +143,43 @@ pub fn sequence(run: &mut Run, random: Random, plan: Plan) -> Outcome {
     Ok(())
 }
 
+/// A whole history: one format of 512 pages, calls of all kinds until no page is free, and on from there.
+pub fn history(run: &mut Run, random: Random, k: usize, shape: Shape) -> Outcome {
+    let mut sequence = Sequence::new(run, random, k, 512, shape);
+    sequence.again = false;
+    // One domain has enough keys in it, too.
+    sequence.keys.spread = 4000;
+    let before = sequence.run.counts.calls();
+    let (mut calls, mut full, mut placed) = (0, None, 0);
+    let (mut phase, mut left) = (GROWING, 0);
+    sequence.start(Start::Formatted)?;
+    while calls < HISTORY || full.is_some_and(|at| calls - at < AFTER_9) || full.is_none() {
+        if full.is_some() && left == 0 {
+            phase = *sequence.random.pick(&PHASES);
+            left = sequence.random.from(100, 300);
+        }
+        left = left.max(1) - 1;
+        sequence.call(&phase)?;
+        let counts = &sequence.run.counts;
+        calls = counts.calls() - before;
+        if full.is_none() && counts.answers[2][9] > 0 {
+            (full, placed) = (Some(calls), counts.answers[2][0]);
+        }
+        if full.is_none() && calls > 4 * HISTORY {
+            break;
+        }
+    }
+    sequence.run.step(Step::Sound)?;
+    let counts = &mut sequence.run.counts;
+    counts.histories += 1;
+    counts.in_histories += calls + 1;
+    if full.is_some() {
+        counts.went_on += 1;
+        counts.placed_later += counts.answers[2][0] - placed;
+    }
+    Ok(())
+}
+
 impl<'r, 'a> Sequence<'r, 'a> {
     fn new(
         run: &'r mut Run<'a>,
@@ -137,6 +196,7 @@ impl<'r, 'a> Sequence<'r, 'a> {
             keys,
             k,
             n,
+            again: true,
             live: Vec::new(),
             gone: Vec::new(),
             empty: Vec::new(),
@@ -192,7 +252,7 @@ impl<'r, 'a> Sequence<'r, 'a> {
             3 => self.list(),
             4 => {
                 // Once in a while the pool is formatted anew, perhaps for another K.
-                if self.random.once_in(12) && self.live.len() < 8 {
+                if self.again && self.random.once_in(12) && self.live.len() < 8 {
                     return self.format_again();
                 }
                 self.run.step(Step::Sound).map(|_| ())

@@ -1,37 +1,157 @@
-//! Each broken index is seen on small pools alone, and its failure is cut down to text that shows it again.
+//! Each broken index and each broken frame program is seen, and its failure is cut down to text that shows it again.
 
-use compare::faults::{broken, FAULTS};
-use compare::index::Second;
-use compare::jobs::{cut_down, small, Compared};
-use compare::run::fails;
+use compare::faults::{broken, FAULTS, FRAME_FAULTS};
+use compare::frames::{self, Program};
+use compare::index::{Bound, Index, Proved, Second};
+use compare::jobs::{cut_down, small, work, Compared, Job};
+use compare::random::{Random, Shape};
+use compare::run::{fails, Failure};
 use compare::step::{parse_all, Step};
+use std::process::Command;
 use std::time::Duration;
+
+fn indexes<'a>(right: &'a dyn Index, other: &'a dyn Index) -> Compared<'a> {
+    Compared {
+        right,
+        other,
+        program: None,
+    }
+}
+
+/// Where a fault is looked for: on small pools, but for those that only one part of the comparison can show.
+fn seen(name: &str, compared: Compared) -> Option<Box<Failure>> {
+    let job = match name {
+        "find-deep" => Job::Spoilt {
+            k: 1,
+            n: 300,
+            pools: 42,
+        },
+        "format-514" | "length-16" => Job::Long { k: 2 },
+        "place-many" => Job::History {
+            k: 1,
+            shape: Shape::Uniform,
+        },
+        _ => return (0..4000).find_map(|number| small(compared, 5, number, false).err()),
+    };
+    (0..4).find_map(|number| work(compared, job, Random::of(5, 0, number), None).err())
+}
 
 #[test]
 fn every_fault_is_seen_and_cut_down() {
     for (name, fault) in FAULTS {
-        // The first needs a deep chain, the second ends the process.
-        if name == "find-deep" || name == "aborts" {
+        // This one ends the process: below.
+        if name == "aborts" {
             continue;
         }
         let other = broken(name).expect("a fault of the list");
-        let compared = Compared {
-            right: &Second,
-            other: &other,
-            program: None,
-        };
-        let seen = (0..4000).find_map(|number| small(compared, 5, number, false).err());
-        let failure = seen.unwrap_or_else(|| panic!("not seen: {name}, {fault}"));
-        let time = Duration::from_secs(5);
+        let compared = indexes(&Second, &other);
+        let failure = seen(name, compared).unwrap_or_else(|| panic!("not seen: {name}, {fault}"));
+        // A thousand placings are not cut down in seconds.
+        let seconds = if name == "place-many" { 0 } else { 5 };
+        let time = Duration::from_secs(seconds);
         let (steps, what) = cut_down(compared, &failure.steps, time).expect("it fails again");
         assert!(steps.len() <= failure.steps.len());
-        let text: String = steps.iter().map(|step| format!("{step}\n")).collect();
-        let again = parse_all(&text).expect("steps");
-        assert_eq!(again, steps, "{name}");
+        let again = read_again(&steps);
         let shown = fails(&Second, &other, &again);
         assert_eq!(shown, Some((steps.len() - 1, what)), "{name}");
         // Without the fault there is nothing to see.
         assert_eq!(fails(&Second, &Second, &steps), None, "{name}");
+    }
+}
+
+/// A working process that dies is seen, and the calls that bring it about are cut down.
+#[test]
+fn a_death_is_seen_and_cut_down() {
+    let run = |words: &[&str]| {
+        let mut command = Command::new(env!("CARGO_BIN_EXE_compare"));
+        let done = command.args(words).output().expect("it starts");
+        (
+            done.status.code(),
+            String::from_utf8_lossy(&done.stdout).into_owned(),
+        )
+    };
+    let (code, text) = run(&["--fault", "aborts", "--threads", "2"]);
+    assert_eq!(code, Some(1), "{text}");
+    assert!(text.contains("the last one shows: death"), "{text}");
+    let steps = parse_all(&text).expect("steps");
+    assert_eq!(fails(&Second, &Second, &steps), None);
+}
+
+/// The steps made of their own text.
+fn read_again(steps: &[Step]) -> Vec<Step> {
+    let text: String = steps.iter().map(|step| format!("{step}\n")).collect();
+    let again = parse_all(&text).expect("steps");
+    assert_eq!(again, steps);
+    again
+}
+
+/// This program as a frame program, broken if the name is that of a fault.
+fn frame_program(name: &str) -> Program {
+    Program {
+        path: env!("CARGO_BIN_EXE_compare").into(),
+        words: vec!["--frames-with".into(), name.into()],
+    }
+}
+
+/// Sessions for a frame program: short ones, and some long enough for a list of 64 locations.
+fn session_that_fails(program: &Program) -> Option<Box<Failure>> {
+    let compared = Compared {
+        program: Some(program),
+        ..indexes(&Second, &Second)
+    };
+    (0..60).find_map(|number| {
+        let job = Job::Frames {
+            sessions: 3,
+            lines: if number % 4 == 3 { 1200 } else { 60 },
+        };
+        work(compared, job, Random::of(5, 0, number), None).err()
+    })
+}
+
+#[test]
+fn every_fault_of_a_frame_program_is_seen_and_cut_down() {
+    let right = frame_program("right");
+    for (name, fault) in FRAME_FAULTS {
+        let program = frame_program(name);
+        let failure =
+            session_that_fails(&program).unwrap_or_else(|| panic!("not seen: {name}, {fault}"));
+        let compared = Compared {
+            program: Some(&program),
+            ..indexes(&Second, &Second)
+        };
+        let time = Duration::from_secs(1);
+        let (steps, what) = cut_down(compared, &failure.steps, time).expect("it fails again");
+        assert!(steps.len() <= failure.steps.len());
+        let again = read_again(&steps);
+        let shown = frames::fails(&program, &again);
+        assert_eq!(shown, Some((steps.len() - 1, what)), "{name}");
+        // Without the fault there is nothing to see.
+        assert_eq!(frames::fails(&right, &steps), None, "{name}");
+    }
+    if let Some(failure) = session_that_fails(&right) {
+        panic!("no fault, but: {}", failure.what);
+    }
+}
+
+/// A program that is not there, and one that does not take its input, are no agreement.
+#[test]
+fn a_frame_program_that_does_not_run_is_seen() {
+    for path in ["no such program", "false", "true"] {
+        let program = Program {
+            path: path.into(),
+            words: Vec::new(),
+        };
+        assert!(session_that_fails(&program).is_some(), "{path}");
+    }
+}
+
+/// The safe binding gives what the library gives.
+#[test]
+fn the_binding_and_the_library_agree() {
+    for number in 0..400 {
+        if let Err(failure) = small(indexes(&Proved, &Bound), 7, number, false) {
+            panic!("{}", failure.what);
+        }
     }
 }
 

@@ -2,33 +2,57 @@
 //!
 //! A record is a point of K keys, K from 1 to 4, and a location, any 32-bit number. No two records have the same point.
 //! Records are [placed](place), [removed](remove), [found](find) by their point, and [listed](list) by a window, the edges
-//! counted. The whole index lies in the pool: nothing is allocated, nothing is kept between calls, and a pool may be
-//! copied, stored and read back as it is.
+//! counted. The whole index lies in the pool: nothing is kept between calls, and a pool may be copied, stored and read
+//! back.
 //!
 //! The calls themselves are written in Rattle and proved, for every input: what each one gives, and every word of every
 //! buffer afterwards. This crate lends them slices. What C leaves to its caller, buffers that do not overlap and true
 //! lengths, the borrow checker sees to here, so every function is safe.
 //!
+//! The functions are lent a pool and allocate nothing. A [`Pool`] owns its words and the work buffer, and its methods
+//! are the same calls. [`raw`] has them as C has them, with numbers. include/korytanka.h says how many records fit in a
+//! pool, and what to do when it is full or not sound.
+//!
 //! ```
 //! # fn main() -> Result<(), korytanka::Refusal> {
-//! // Signals by frequency and time, on eight pages.
+//! // Signals by retention time (milliseconds) and mass (mass-to-charge, in thousandths), on eight pages.
 //! let mut pool = [0; 8 * korytanka::PAGE_WORDS];
 //! let mut work = [0; 8 * korytanka::PAGE_WORDS];
 //! korytanka::format(&mut pool, 2)?;
-//! korytanka::place(&mut pool, &mut work, &[440, 3], 1000)?;
-//! korytanka::place(&mut pool, &mut work, &[261, 9], 1001)?;
+//! korytanka::place(&mut pool, &mut work, &[120_000, 195_088], 1000)?;
+//! korytanka::place(&mut pool, &mut work, &[95_400, 181_072], 1001)?;
 //!
-//! // From 400 to 500 hertz, from second 0 to second 10.
+//! // From 110 to 120 seconds, masses from 195.0 to 195.2. The edges count.
 //! let mut answer = [0; 4];
-//! let listed = korytanka::list(&pool, &[400, 0, 500, 10], &mut answer)?;
+//! let listed = korytanka::list(&pool, &[110_000, 195_000, 120_000, 195_200], &mut answer)?;
+//! assert_eq!(listed.locations, [1000]);
 //! assert_eq!((listed.total, listed.reads), (1, 1));
-//! assert_eq!(answer, [1000, 0, 0, 0]);
 //!
-//! assert_eq!(korytanka::remove(&mut pool, &[440, 3])?, 1000);
-//! assert_eq!(korytanka::find(&pool, &[440, 3]), Err(korytanka::Refusal::Absent));
+//! assert_eq!(korytanka::remove(&mut pool, &[120_000, 195_088])?, 1000);
+//! assert_eq!(korytanka::find(&pool, &[120_000, 195_088]), Err(korytanka::Refusal::Absent));
 //! # Ok(())
 //! # }
 //! ```
+//!
+//! A signal on the edge between two pages is listed, whichever side the window comes from:
+//!
+//! ```
+//! # fn main() -> Result<(), korytanka::Refusal> {
+//! // Fifteen retention times. The fifteenth cuts the page at 80 seconds: [0, 80 s) and [80 s, ∞).
+//! let mut pool = korytanka::Pool::new(1, 8)?;
+//! for second in (10..=150).step_by(10) {
+//!     pool.place(&[1000 * second], second)?;
+//! }
+//! let mut answer = [0; 4];
+//! let edge = pool.list(&[80_000, 80_000], &mut answer)?;
+//! assert_eq!((edge.locations, edge.reads), (&[80][..], 2));
+//! let both = pool.list(&[70_000, 80_000], &mut answer)?;
+//! assert_eq!((both.locations, both.reads), (&[70, 80][..], 3));
+//! # Ok(())
+//! # }
+//! ```
+//!
+//! Any number of threads may read one pool at once, each with an answer buffer of its own; `&` and `&mut` see to it.
 //!
 //! Two buffers of one call that overlap do not compile:
 //!
@@ -44,7 +68,7 @@
 
 #![deny(missing_docs)]
 
-mod library;
+pub mod raw;
 
 use std::error::Error;
 use std::fmt;
@@ -76,16 +100,18 @@ pub enum Refusal {
     /// 3: a point is not K words, a window is not 2K words, or the work buffer is not as long as the pool.
     BufferLength = 3,
     /// 4: a key or an end of a window is [`INFINITY`].
-    Infinite = 4,
+    InfiniteKey = 4,
     /// 5: a lower end of a window is above its upper end.
     WindowOrder = 5,
-    /// 6: the header is not good, the pool is not sound, or a walk met a bad page.
+    /// 6: the header is not good, the pool is not sound, or a walk met a bad page. No call mends it: take a stored
+    /// copy.
     Unsound = 6,
     /// 7: the point is already there.
     Present = 7,
     /// 8: the point is not there.
     Absent = 8,
-    /// 9: placing would need a page, and none is free.
+    /// 9: placing would need a page, and none is free. Removing frees none: for more room, place the records in a pool
+    /// of more pages.
     NoFreePage = 9,
 }
 
@@ -95,7 +121,7 @@ impl Refusal {
         Refusal::PoolLength,
         Refusal::Domains,
         Refusal::BufferLength,
-        Refusal::Infinite,
+        Refusal::InfiniteKey,
         Refusal::WindowOrder,
         Refusal::Unsound,
         Refusal::Present,
@@ -113,13 +139,22 @@ impl Refusal {
     }
 }
 
+/// The value where the number is 0, and otherwise the refusal of that number.
+fn answered<T>(number: u32, value: T) -> Result<T, Refusal> {
+    match number {
+        0 => Ok(value),
+        1..=9 => Err(Refusal::ALL[number as usize - 1]),
+        _ => unreachable!("the library gives no number above 9"),
+    }
+}
+
 impl fmt::Display for Refusal {
     fn fmt(&self, f: &mut fmt::Formatter<'_>) -> fmt::Result {
         f.write_str(match self {
             Refusal::PoolLength => "the pool is not 32 x N words, N from 2 to 512",
             Refusal::Domains => "K is not 1 to 4",
             Refusal::BufferLength => "a point, a window or the work buffer has another length",
-            Refusal::Infinite => "a key or an end of a window is 4294967295",
+            Refusal::InfiniteKey => "a key or an end of a window is 4294967295",
             Refusal::WindowOrder => "a lower end of the window is above its upper end",
             Refusal::Unsound => "the pool is not sound",
             Refusal::Present => "the point is already there",
@@ -142,7 +177,9 @@ pub struct Found {
 
 /// What [`list`] returns.
 #[derive(Clone, Copy, Debug, PartialEq, Eq, Hash)]
-pub struct Listed {
+pub struct Listed<'a> {
+    /// The filled part of the answer buffer: the locations of the first records found.
+    pub locations: &'a [u32],
     /// The records found, those that the answer buffer had no slot for among them.
     pub total: u32,
     /// The pages read, the header not counted.
@@ -159,7 +196,7 @@ pub struct Listed {
 /// assert_eq!(pool[..3], [3, 2, 0]);
 /// ```
 pub fn format(pool: &mut [u32], k: u32) -> Result<(), Refusal> {
-    library::format(pool, k)
+    answered(raw::format(pool, k), ())
 }
 
 /// Tells whether the pool is sound: every word of it is as a tree of its records leaves it.
@@ -174,7 +211,7 @@ pub fn format(pool: &mut [u32], k: u32) -> Result<(), Refusal> {
 /// assert_eq!(korytanka::check(&pool), Ok(()));
 /// ```
 pub fn check(pool: &[u32]) -> Result<(), Refusal> {
-    library::check(pool)
+    answered(raw::check(pool), ())
 }
 
 /// Places a record: a point of K keys, and its location.
@@ -183,7 +220,7 @@ pub fn check(pool: &[u32]) -> Result<(), Refusal> {
 /// as it stood before the call; after any other refusal it is unchanged.
 ///
 /// Refusals: [`PoolLength`](Refusal::PoolLength), [`BufferLength`](Refusal::BufferLength),
-/// [`Infinite`](Refusal::Infinite), [`Unsound`](Refusal::Unsound), [`Present`](Refusal::Present),
+/// [`InfiniteKey`](Refusal::InfiniteKey), [`Unsound`](Refusal::Unsound), [`Present`](Refusal::Present),
 /// [`NoFreePage`](Refusal::NoFreePage).
 ///
 /// ```
@@ -201,13 +238,13 @@ pub fn place(
     point: &[u32],
     location: u32,
 ) -> Result<(), Refusal> {
-    library::place(pool, work, point, location)
+    answered(raw::place(pool, work, point, location), ())
 }
 
 /// Removes the record of a point, and returns its location.
 ///
 /// Refusals: [`PoolLength`](Refusal::PoolLength), [`BufferLength`](Refusal::BufferLength),
-/// [`Infinite`](Refusal::Infinite), [`Unsound`](Refusal::Unsound), [`Absent`](Refusal::Absent).
+/// [`InfiniteKey`](Refusal::InfiniteKey), [`Unsound`](Refusal::Unsound), [`Absent`](Refusal::Absent).
 ///
 /// ```
 /// use korytanka::Refusal;
@@ -218,13 +255,14 @@ pub fn place(
 /// assert_eq!(korytanka::remove(&mut pool, &[5]), Err(Refusal::Absent));
 /// ```
 pub fn remove(pool: &mut [u32], point: &[u32]) -> Result<u32, Refusal> {
-    library::remove(pool, point)
+    let removed = raw::remove(pool, point);
+    answered(removed.number, removed.location)
 }
 
 /// Finds the record of a point: its location, and the pages read, on a sound pool one for each level.
 ///
 /// Refusals: [`PoolLength`](Refusal::PoolLength), [`BufferLength`](Refusal::BufferLength),
-/// [`Infinite`](Refusal::Infinite), [`Unsound`](Refusal::Unsound), [`Absent`](Refusal::Absent).
+/// [`InfiniteKey`](Refusal::InfiniteKey), [`Unsound`](Refusal::Unsound), [`Absent`](Refusal::Absent).
 ///
 /// ```
 /// use korytanka::{Found, Refusal};
@@ -235,7 +273,12 @@ pub fn remove(pool: &mut [u32], point: &[u32]) -> Result<u32, Refusal> {
 /// assert_eq!(korytanka::find(&pool, &[5, 6]), Err(Refusal::BufferLength));
 /// ```
 pub fn find(pool: &[u32], point: &[u32]) -> Result<Found, Refusal> {
-    library::find(pool, point)
+    let raw::Found {
+        number,
+        location,
+        reads,
+    } = raw::find(pool, point);
+    answered(number, Found { location, reads })
 }
 
 /// Lists the records whose point lies in a window: K lower ends, then K upper ends, lower ≤ key ≤ upper in each domain.
@@ -245,7 +288,7 @@ pub fn find(pool: &[u32], point: &[u32]) -> Result<Found, Refusal> {
 /// pages, every slot is 0. After any other refusal the buffer is unchanged.
 ///
 /// Refusals: [`PoolLength`](Refusal::PoolLength), [`BufferLength`](Refusal::BufferLength),
-/// [`Infinite`](Refusal::Infinite), [`WindowOrder`](Refusal::WindowOrder), [`Unsound`](Refusal::Unsound).
+/// [`InfiniteKey`](Refusal::InfiniteKey), [`WindowOrder`](Refusal::WindowOrder), [`Unsound`](Refusal::Unsound).
 ///
 /// ```
 /// use korytanka::{Listed, Refusal};
@@ -255,70 +298,117 @@ pub fn find(pool: &[u32], point: &[u32]) -> Result<Found, Refusal> {
 ///     korytanka::place(&mut pool, &mut work, &[key], key + 1).unwrap();
 /// }
 /// let mut answer = [0; 1];
-/// assert_eq!(korytanka::list(&pool, &[20, 30], &mut answer), Ok(Listed { total: 2, reads: 1 }));
-/// assert_eq!(answer, [31]);
+/// let listed = korytanka::list(&pool, &[20, 30], &mut answer);
+/// assert_eq!(listed, Ok(Listed { locations: &[31], total: 2, reads: 1 }));
 /// assert_eq!(korytanka::list(&pool, &[30, 20], &mut answer), Err(Refusal::WindowOrder));
 /// ```
-pub fn list(pool: &[u32], window: &[u32], answer: &mut [u32]) -> Result<Listed, Refusal> {
-    library::list(pool, window, answer)
+pub fn list<'a>(
+    pool: &[u32],
+    window: &[u32],
+    answer: &'a mut [u32],
+) -> Result<Listed<'a>, Refusal> {
+    let raw::Listed {
+        number,
+        total,
+        reads,
+    } = raw::list(pool, window, answer);
+    let filled = answer.len().min(total as usize);
+    let listed = Listed {
+        locations: &answer[..filled],
+        total,
+        reads,
+    };
+    answered(number, listed)
 }
 
-/// A sound pool and its work buffer, borrowed together: the calls without the buffers.
+/// A pool that owns its words and its work buffer: the calls without the buffers.
 ///
-/// While it lives nothing else writes the pool, so it stays sound. The work buffer is as long as the pool; with one of
-/// another length every [`place`](Pool::place) is refused.
+/// It is sound from the start, and nothing but its own calls writes its words, so it stays sound.
 ///
 /// ```
 /// # fn main() -> Result<(), korytanka::Refusal> {
-/// let (mut words, mut work) = ([0; 64], [0; 64]);
-/// let mut pool = korytanka::Pool::format(&mut words, &mut work, 2)?;
-/// pool.place(&[440, 3], 1000)?;
-/// assert_eq!(pool.find(&[440, 3])?.location, 1000);
-/// assert_eq!(pool.remove(&[440, 3])?, 1000);
+/// use korytanka::Pool;
+/// // Signals by retention time and mass, on 64 pages.
+/// let mut pool = Pool::new(2, 64)?;
+/// pool.place(&[120_000, 195_088], 1000)?;
+/// assert_eq!(pool.find(&[120_000, 195_088])?.location, 1000);
+///
+/// // Stored as bytes, the lowest of each word first, so that any machine can read them.
+/// let stored: Vec<u8> = pool.words().iter().flat_map(|word| word.to_le_bytes()).collect();
+/// let words = stored.chunks_exact(4).map(|b| u32::from_le_bytes([b[0], b[1], b[2], b[3]]));
+/// let mut again = Pool::from_words(words.collect())?;
+/// assert_eq!(again.remove(&[120_000, 195_088])?, 1000);
 /// # Ok(())
 /// # }
 /// ```
-#[derive(Debug)]
-pub struct Pool<'a> {
-    words: &'a mut [u32],
-    work: &'a mut [u32],
+#[derive(Clone, Debug)]
+pub struct Pool {
+    words: Vec<u32>,
+    work: Vec<u32>,
 }
 
-impl<'a> Pool<'a> {
-    /// Makes the words an empty index of `k` domains. See [`format()`].
-    pub fn format(words: &'a mut [u32], work: &'a mut [u32], k: u32) -> Result<Self, Refusal> {
-        format(words, k)?;
+impl Pool {
+    /// An empty index of `k` domains on so many pages. See [`format()`].
+    pub fn new(k: u32, pages: usize) -> Result<Pool, Refusal> {
+        // The library refuses one page too many; more need not be allocated for that.
+        let mut words = vec![0; PAGE_WORDS * pages.min(MOST_PAGES + 1)];
+        format(&mut words, k)?;
+        let work = words.clone();
         Ok(Pool { words, work })
     }
 
-    /// Takes words that already hold a sound pool. See [`check`].
-    pub fn open(words: &'a mut [u32], work: &'a mut [u32]) -> Result<Self, Refusal> {
-        check(words)?;
+    /// A pool of words that were stored; refused unless they are sound. See [`check`].
+    pub fn from_words(words: Vec<u32>) -> Result<Pool, Refusal> {
+        check(&words)?;
+        let work = words.clone();
         Ok(Pool { words, work })
     }
 
     /// The words, to store or to look at.
     pub fn words(&self) -> &[u32] {
+        &self.words
+    }
+
+    /// The words, the pool given up.
+    pub fn into_words(self) -> Vec<u32> {
         self.words
+    }
+
+    /// See [`check`]. It is refused only if something else has got at the memory.
+    pub fn check(&self) -> Result<(), Refusal> {
+        check(&self.words)
     }
 
     /// See [`place`].
     pub fn place(&mut self, point: &[u32], location: u32) -> Result<(), Refusal> {
-        place(self.words, self.work, point, location)
+        place(&mut self.words, &mut self.work, point, location)
     }
 
     /// See [`remove`].
     pub fn remove(&mut self, point: &[u32]) -> Result<u32, Refusal> {
-        remove(self.words, point)
+        remove(&mut self.words, point)
     }
 
     /// See [`find`].
     pub fn find(&self, point: &[u32]) -> Result<Found, Refusal> {
-        find(self.words, point)
+        find(&self.words, point)
     }
 
     /// See [`list`].
-    pub fn list(&self, window: &[u32], answer: &mut [u32]) -> Result<Listed, Refusal> {
-        list(self.words, window, answer)
+    pub fn list<'a>(&self, window: &[u32], answer: &'a mut [u32]) -> Result<Listed<'a>, Refusal> {
+        list(&self.words, window, answer)
+    }
+}
+
+#[cfg(test)]
+mod tests {
+    use super::*;
+
+    #[test]
+    fn numbers_and_names_agree() {
+        for refusal in Refusal::ALL {
+            assert_eq!(answered(refusal.number(), ()), Err(refusal));
+        }
+        assert_eq!(answered(0, 3), Ok(3));
     }
 }

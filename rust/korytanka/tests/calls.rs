@@ -82,7 +82,7 @@ fn place_answers() {
     );
     assert_eq!(
         place(&mut pool, &mut work, &[1, INFINITY], 3),
-        Err(Refusal::Infinite)
+        Err(Refusal::InfiniteKey)
     );
     assert_eq!(pool, before);
     assert_eq!(work, vec![0x5A5A_5A5A; n]);
@@ -124,7 +124,7 @@ fn remove_answers() {
     let full = pool.clone();
     assert_eq!(remove(&mut pool[1..], &[80]), Err(Refusal::PoolLength));
     assert_eq!(remove(&mut pool, &[]), Err(Refusal::BufferLength));
-    assert_eq!(remove(&mut pool, &[INFINITY]), Err(Refusal::Infinite));
+    assert_eq!(remove(&mut pool, &[INFINITY]), Err(Refusal::InfiniteKey));
     assert_eq!(remove(&mut pool, &[81]), Err(Refusal::Absent));
     pool[4] = 14;
     assert_eq!(remove(&mut pool, &[80]), Err(Refusal::Unsound));
@@ -140,7 +140,7 @@ fn find_answers() {
     let (mut pool, _) = fifteen(4);
     assert_eq!(find(&pool[1..], &[80]), Err(Refusal::PoolLength));
     assert_eq!(find(&pool, &[80, 80]), Err(Refusal::BufferLength));
-    assert_eq!(find(&pool, &[INFINITY]), Err(Refusal::Infinite));
+    assert_eq!(find(&pool, &[INFINITY]), Err(Refusal::InfiniteKey));
     assert_eq!(find(&pool, &[81]), Err(Refusal::Absent));
     assert_eq!(
         find(&pool, &[80]),
@@ -166,24 +166,31 @@ fn find_answers() {
 #[test]
 fn list_answers() {
     let (mut pool, _) = fifteen(4);
-    for (window, total, reads, locations) in [
+    for (window, total, reads, after) in [
         ([80, 80], 1, 2, [80, 7]),
         ([79, 80], 1, 3, [80, 7]),
         ([70, 79], 1, 2, [70, 7]),
+        ([70, 80], 2, 3, [70, 80]),
         ([0, MOST_KEY], 15, 3, [10, 20]),
         ([81, 89], 0, 2, [7, 7]),
     ] {
         let mut answer = [7; 2];
-        assert_eq!(
-            list(&pool, &window, &mut answer),
-            Ok(Listed { total, reads })
-        );
-        assert_eq!(answer, locations);
+        let locations = &after[..total.min(2)];
+        let total = total as u32;
+        let listed = Listed {
+            locations,
+            total,
+            reads,
+        };
+        assert_eq!(list(&pool, &window, &mut answer), Ok(listed));
+        assert_eq!(answer, after);
     }
-    assert_eq!(
-        list(&pool, &[0, 90], &mut []),
-        Ok(Listed { total: 9, reads: 3 })
-    );
+    let counted = Listed {
+        locations: &[],
+        total: 9,
+        reads: 3,
+    };
+    assert_eq!(list(&pool, &[0, 90], &mut []), Ok(counted));
 
     let mut answer = [7; 2];
     assert_eq!(
@@ -193,7 +200,7 @@ fn list_answers() {
     assert_eq!(list(&pool, &[1], &mut answer), Err(Refusal::BufferLength));
     assert_eq!(
         list(&pool, &[6, INFINITY], &mut answer),
-        Err(Refusal::Infinite)
+        Err(Refusal::InfiniteKey)
     );
     assert_eq!(list(&pool, &[6, 5], &mut answer), Err(Refusal::WindowOrder));
     pool[31] = 1;
@@ -204,32 +211,184 @@ fn list_answers() {
     pool[64] = 0;
     assert_eq!(list(&pool, &[70, 80], &mut answer), Err(Refusal::Unsound));
     assert_eq!(answer, [0, 0]);
-    assert_eq!(
-        list(&pool, &[70, 79], &mut answer),
-        Ok(Listed { total: 1, reads: 2 })
-    );
+    let listed = list(&pool, &[70, 79], &mut answer).unwrap();
+    assert_eq!((listed.locations, listed.reads), (&[70][..], 2));
+}
+
+/// As C has them: after every refusal the fields behind the number are 0.
+#[test]
+fn refusals_return_nothing_else() {
+    let (mut pool, _) = fifteen(4);
+    // A false K, a false count, a bad page, and none of them.
+    for (word, by) in [(0, 9), (4, 1), (64, 1), (5, 0)] {
+        pool[word] += by;
+        let short = pool.len() - 1;
+        for words in [0, short, pool.len()] {
+            for point in [&[][..], &[80], &[81], &[INFINITY]] {
+                let mut copy = pool.clone();
+                let removed = raw::remove(&mut copy[..words], point);
+                assert!(removed.number == 0 || removed.location == 0);
+                let found = raw::find(&pool[..words], point);
+                assert!(found.number == 0 || (found.location, found.reads) == (0, 0));
+            }
+            for window in [&[][..], &[70, 80], &[80, 70], &[6, INFINITY]] {
+                let listed = raw::list(&pool[..words], window, &mut [7; 2]);
+                assert!(listed.number == 0 || (listed.total, listed.reads) == (0, 0));
+            }
+        }
+        pool[word] -= by;
+    }
+}
+
+#[test]
+fn pools_of_any_size_are_made_or_refused() {
+    for (k, pages, number) in [
+        (1, 2, 0),
+        (4, 512, 0),
+        (1, 0, 1),
+        (1, 1, 1),
+        (5, 513, 1),
+        (1, usize::MAX, 1),
+        (0, 2, 2),
+        (5, 2, 2),
+    ] {
+        let made = Pool::new(k, pages);
+        assert_eq!(made.as_ref().map_or_else(|r| r.number(), |_| 0), number);
+        if let Ok(pool) = made {
+            assert_eq!(pool.words().len(), PAGE_WORDS * pages);
+            assert_eq!(pool.check(), Ok(()));
+        }
+    }
+}
+
+#[test]
+fn a_pool_owns_its_words() {
+    let mut pool = Pool::new(1, 4).unwrap();
+    for key in (10..=150).step_by(10) {
+        pool.place(&[key], key).unwrap();
+    }
+    let (words, _) = fifteen(4);
+    assert_eq!(pool.words(), words);
+    assert_eq!(pool.place(&[150], 1), Err(Refusal::Present));
+    assert_eq!(pool.place(&[1, 2], 1), Err(Refusal::BufferLength));
+    let found = Found {
+        location: 80,
+        reads: 2,
+    };
+    assert_eq!(pool.find(&[80]), Ok(found));
+    assert_eq!(pool.find(&[81]), Err(Refusal::Absent));
+    let mut answer = [7; 4];
+    let listed = pool.list(&[70, 90], &mut answer).unwrap();
+    assert_eq!(listed.locations, [70, 80, 90]);
+    assert_eq!((listed.total, listed.reads), (3, 3));
+    assert_eq!(pool.list(&[9, 8], &mut answer), Err(Refusal::WindowOrder));
+
+    // A copy goes its own way.
+    let mut copy = pool.clone();
+    assert_eq!(copy.remove(&[80]), Ok(80));
+    assert_eq!(copy.remove(&[80]), Err(Refusal::Absent));
+    assert_eq!(pool.words(), words);
+
+    // It runs full, and a place that is refused changes nothing.
+    let mut key = 150;
+    let full = loop {
+        key += 10;
+        let before = pool.words().to_vec();
+        if let Err(refusal) = pool.place(&[key], key) {
+            assert_eq!(pool.words(), before);
+            break refusal;
+        }
+    };
+    assert_eq!(full, Refusal::NoFreePage);
+    assert_eq!(pool.check(), Ok(()));
 }
 
 #[test]
 fn a_pool_is_stored_and_opened_again() {
-    let (mut words, mut work) = (vec![0; 4 * PAGE_WORDS], vec![0; 4 * PAGE_WORDS]);
-    let mut pool = Pool::format(&mut words, &mut work, 4).unwrap();
+    let mut pool = Pool::new(4, 4).unwrap();
     pool.place(&[1, 2, 3, 4], 5).unwrap();
-    let mut stored = pool.words().to_vec();
+    let stored = pool.words().to_vec();
+    assert_eq!(pool.into_words(), stored);
 
-    let mut pool = Pool::open(&mut stored, &mut work).unwrap();
+    let mut pool = Pool::from_words(stored.clone()).unwrap();
     let mut answer = [0];
-    assert_eq!(
-        pool.list(&[1, 2, 3, 4, 1, 2, 3, 4], &mut answer),
-        Ok(Listed { total: 1, reads: 1 })
-    );
-    assert_eq!(answer, [5]);
-    assert_eq!(pool.find(&[1, 2, 3, 4]).unwrap().location, 5);
+    let listed = pool.list(&[1, 2, 3, 4, 1, 2, 3, 4], &mut answer).unwrap();
+    assert_eq!(listed.locations, [5]);
+    pool.place(&[1, 2, 3, 5], 6).unwrap();
     assert_eq!(pool.remove(&[1, 2, 3, 4]), Ok(5));
 
-    stored[5] = 1;
-    assert_eq!(
-        Pool::open(&mut stored, &mut work).unwrap_err(),
-        Refusal::Unsound
-    );
+    // Not a pool's length, a word changed, and the wrong byte order.
+    let refused = |words: Vec<u32>| Pool::from_words(words).unwrap_err();
+    assert_eq!(refused(stored[1..].to_vec()), Refusal::PoolLength);
+    let mut spoilt = stored.clone();
+    spoilt[5] = 1;
+    assert_eq!(refused(spoilt), Refusal::Unsound);
+    let swapped = stored.iter().map(|word| word.swap_bytes());
+    assert_eq!(refused(swapped.collect()), Refusal::Unsound);
+}
+
+/// Check, find and list by four threads on one pool.
+#[test]
+fn many_threads_read_one_pool() {
+    let mut pool = Pool::new(2, 128).unwrap();
+    for key in 0..200 {
+        pool.place(&[key * 37 % 200, key], key).unwrap();
+    }
+    let pool = &pool;
+    std::thread::scope(|scope| {
+        for thread in 0..4 {
+            scope.spawn(move || {
+                let mut answer = [0; 200];
+                for key in (thread..200).chain(0..thread) {
+                    let point = [key * 37 % 200, key];
+                    assert_eq!(pool.find(&point).map(|found| found.location), Ok(key));
+                    let window = [0, key, MOST_KEY, key + thread];
+                    let listed = pool.list(&window, &mut answer).unwrap();
+                    let total = (thread + 1).min(200 - key);
+                    assert_eq!(listed.locations.len(), total as usize);
+                    assert!(listed
+                        .locations
+                        .iter()
+                        .all(|l| (key..=key + thread).contains(l)));
+                    assert_eq!(pool.check(), Ok(()));
+                }
+            });
+        }
+    });
+}
+
+/// The header's names have the numbers of this crate.
+#[test]
+fn the_header_says_the_same() {
+    let header = include_str!("../../../include/korytanka.h");
+    let value = |name: &str| {
+        let line = format!("#define KORYTANKA_{name} ");
+        let mut found = header.lines().filter_map(|l| l.strip_prefix(&*line));
+        let value = found.next().unwrap_or_else(|| panic!("no {name}"));
+        let digits = value.trim_start_matches("UINT32_C(").trim_end_matches(')');
+        digits.parse::<usize>().unwrap()
+    };
+    let version = env!("CARGO_PKG_VERSION").split('.');
+    let version: Vec<usize> = version.map(|part| part.parse().unwrap()).collect();
+    assert_eq!(value("VERSION_MAJOR"), version[0]);
+    assert_eq!(value("VERSION_MINOR"), version[1]);
+    assert_eq!(value("PAGE_WORDS"), PAGE_WORDS);
+    assert_eq!(value("LEAST_PAGES"), LEAST_PAGES);
+    assert_eq!(value("MOST_PAGES"), MOST_PAGES);
+    assert_eq!(value("MOST_WORDS"), MOST_PAGES * PAGE_WORDS);
+    assert_eq!(value("MOST_DOMAINS"), MOST_DOMAINS);
+    assert_eq!(value("MOST_KEY"), MOST_KEY as usize);
+    assert_eq!(value("INFINITY"), INFINITY as usize);
+    assert_eq!(value("DONE"), 0);
+    // The names are the variants' in capitals: PoolLength is REFUSED_POOL_LENGTH.
+    for refusal in Refusal::ALL {
+        let mut name = String::from("REFUSED");
+        for letter in format!("{refusal:?}").chars() {
+            if letter.is_uppercase() {
+                name.push('_');
+            }
+            name.extend(letter.to_uppercase());
+        }
+        assert_eq!(value(&name), refusal.number() as usize);
+    }
 }
