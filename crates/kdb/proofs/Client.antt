@@ -1,19 +1,19 @@
 -- The frame program does what its client is told: a line that is written as specs/Client.antt says is read back as the call it asks for.
-use mathlib.Core.Bool.{Bool, true, false, _&&_, _||_, cond}
-use mathlib.Core.List.{List, [], _∷_, _++_, map, append-assoc}
+use mathlib.Core.Bool.{Bool, true, false, _||_, not, cond}
+use mathlib.Core.List.{List, [], _∷_, _++_, map, append-assoc, append-nil}
 use mathlib.Core.Option.{Option, none, some}
-use mathlib.Core.Path.{_≡_, refl, sym, ap, ap₂, _∙_, subst}
-use Prim.Native.Nat.{ℕ, zero, suc, _+_, _-_, _*_, _/_, _%_, _≤_, _<_}
+use mathlib.Core.Path.{_≡_, refl, sym, ap, ap₂, _∙_}
+use Prim.Native.Nat.{ℕ, suc, _+_, _-_, _*_, _/_, _%_, _≤_, _<_}
 use native.Mathlib.Omega.{arith}
 use lib.Dec.{T, leb, eqb, leb→le, eqb→eq}
 use lib.ListN.{length, take, replicate, getD, length-append, length-map}
 use borrow.Author.Tests.{le-leb, eq-eqb, ne-eqb}
-use Rattle.kdb.specs.Lists.{Each, gather, andThen}
+use Rattle.kdb.specs.Lists.{every, Each, gather, andThen}
 use Rattle.kdb.specs.Calls.{L, Call, format, place, remove, find, list, Outcome, outcome}
-use Rattle.kdb.specs.Frames.{between, digit, bytesOf, wordsOf, digitOf, hex, Frame, new, call, unknown, newOf, placeOf, slots, withWords, frameOf, framed, parse, found, answerText, Reply, refusal, renewed, answered, obey, reply}
+use Rattle.kdb.specs.Frames.{between, digit, bytesOf, wordsOf, digitOf, hex, new, call, unknown, newOf, placeOf, slots, withWords, frameOf, framed, parse, found, answerText, Reply, renewed, answered, obey, reply, lines, session}
 use Rattle.kdb.specs.Client.{digits, byteText, wordText, Word, told, Answered, Renewed, NoFrame, hexadecimal, upper, Client}
 use Rattle.kdb.proofs.Lists.{and-l, and-r, cases, every-up, each-append}
-use Rattle.kdb.proofs.Frames.{reply-long}
+use Rattle.kdb.proofs.Frames.{reply-long, lines-break, lines-last}
 
 -- the sixteen digits, by computing
 table-digit : (d : ℕ) → d < 16 → digitOf d ≡ getD digits d 0
@@ -304,6 +304,11 @@ module _ (w : List ℕ) where
   either [] = refl
   either (a ∷ line) = ap (obey w) (ap₂ (λ m o. cond (leb m 128) (framed o) unknown) (length-map (a ∷ line) upper) (upper-bytes (a ∷ line)))
 
+  last-line : (line : List ℕ) → T (every (λ a. not (eqb a 10)) line) → session w (lines line) ≡ reply w line .text
+  unfolding reply
+  last-line [] h = refl
+  last-line (a ∷ line) h = ap (session w) (lines-last a line h) ∙ append-nil (reply w (a ∷ line) .text)
+
   pub client : Client w
   unfolding reply
   client =
@@ -324,4 +329,6 @@ module _ (w : List ℕ) where
         part = part;
         wordless = refl;
         empty = refl;
+        onward = λ line rest h. ap (session w) (lines-break line rest h);
+        last = last-line;
       }

@@ -10,9 +10,8 @@ use native.Mathlib.Nat.{mod-lt, mod-eq-of-lt, mod-add-mod}
 use lib.Dec.{T, leb, ltb, eqb, leb→le, ltb→lt, lt→ltb, nleb→lt, nltb→le, eqb→eq, eqb-refl, T-not}
 use lib.ListN.{length, getD}
 use Rattle.kdb.specs.Lists.{bit, tally, many}
-use Rattle.kdb.specs.Box.{Box, keyAt, lowerAt}
-use Rattle.kdb.specs.Tree.{Rec}
-use Rattle.kdb.specs.Cut.{insertSorted, sort, firstAbove, cutIn, cutOf, Cut, nowhere, cut, choose, cutPoints, cutRegions}
+use Rattle.kdb.specs.Box.{keyAt, lowerAt}
+use Rattle.kdb.specs.Cut.{insertSorted, sort, firstAbove, cutIn, cutOf, Cut, cut, choose}
 use Rattle.kdb.specs.Demands.{Ranks, CutsAt, Alike, CutFor, ByTheCuts}
 use Rattle.kdb.proofs.Lists.{bool, cases, to-bit, no-bit, getD-in, tally-imp}
 use Rattle.kdb.proofs.Cut.{tally-insert, tally-sort, none-below, below-none, Least, head-least, first-is, cutIn-is, cutOf-none}

@@ -31,7 +31,7 @@ use Rattle.kdb.proofs.Wanting.{ample, wanting}
 use Rattle.kdb.proofs.Reading.{Answers, find-rootless, find-answers}
 use Rattle.kdb.proofs.Calls.{done, goes-on, judge-both, judge-past, refusal-keeps, check-still, find-still, list-still}
 use Rattle.kdb.proofs.Answers.{one-located}
-use Rattle.kdb.proofs.Demands.{big, Passed, passed-within, place-placing, PlaceDone, place-done, remove-steps}
+use Rattle.kdb.proofs.Demands.{big, Passed, passed-within, place-placing, place-done, remove-steps}
 
 -- no test of these gives refusal n
 abbrev avoids : ℕ → List Test → Bool

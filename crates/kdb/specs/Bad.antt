@@ -2,7 +2,7 @@
 -- or region page above it, its count exceeds P or R, or a region page's count is 0; find also calls a region page bad if no entry holds
 -- the point. In list the walk stops with refusal 6 before page read number N." They are read off the words here, apart from the walks of
 -- Walk.antt: the demands say by them when find and list are refused.
-use mathlib.Core.Bool.{Bool, true, false, _&&_, _||_, not, cond}
+use mathlib.Core.Bool.{Bool, true, _&&_, _||_, not, cond}
 use mathlib.Core.List.{List, [], _∷_, map}
 use Prim.Native.Nat.{ℕ, zero, suc, _+_, _-_}
 use lib.Dec.{leb, ltb, eqb}

@@ -1,13 +1,14 @@
 -- The frame program from the client's side: document 01, "The frame program". Frames.antt reads lines; here they are written: the line that
 -- asks for each call, what is answered, and the lines that are no frame.
-use mathlib.Core.Bool.{Bool, false, _||_, cond}
+use mathlib.Core.Bool.{Bool, false, _||_, not, cond}
 use mathlib.Core.List.{List, [], _∷_, _++_, map}
 use mathlib.Core.Path.{_≡_}
 use Prim.Native.Nat.{ℕ, _-_, _*_, _/_, _%_, _≤_, _<_}
+use lib.Dec.{T, eqb}
 use lib.ListN.{length, take, replicate, getD}
-use Rattle.kdb.specs.Lists.{Each, gather}
+use Rattle.kdb.specs.Lists.{every, Each, gather}
 use Rattle.kdb.specs.Calls.{L, Call, format, place, remove, find, list, Outcome, outcome}
-use Rattle.kdb.specs.Frames.{between, Reply, reply}
+use Rattle.kdb.specs.Frames.{between, Reply, reply, lines, session}
 
 -- 0 to 9 and A to F
 abbrev pub digits : List ℕ
@@ -72,3 +73,7 @@ pub record Client (w : List ℕ) : Type 0 where
   pub wordless : NoFrame w (byteText 1)
   -- an empty line writes nothing
   pub empty : reply w [] ≡ record { pool = w; text = [] }
+  -- a line feed ends a line, the next line meets the pool that this one left, and the last line may lack its line feed
+  pub onward : (line rest : List ℕ) → T (every (λ a. not (eqb a 10)) line)
+      → session w (lines (line ++ (10 ∷ rest))) ≡ reply w line .text ++ session (reply w line .pool) (lines rest)
+  pub last : (line : List ℕ) → T (every (λ a. not (eqb a 10)) line) → session w (lines line) ≡ reply w line .text
