@@ -76,6 +76,7 @@ module _ (w : List ℕ) (sound : Sound L w) (rs : List Rec) (same : SameRecords 
       record {
         done = ap (λ o. o .number) e ∙ g .0;
         exact = exact;
+        order = is;
         total =
             ap (λ o. getD (o .values) 0 0) e ∙ (g .1 ∙ (sym long ∙ (ap length is
             ∙ (length-only (λ r. inWindow window (r .key)) (recordsOf (stateOf L w)) ∙ (same (λ r. inWindow window (r .key)) ∙ sym (length-only (λ r. inWindow window (r .key)) rs))))));

@@ -48,6 +48,8 @@ foundBy w v = map (λ x. x .rec) (listWalk L w (windowOf (domains w) v) .found)
 pub record ListsExactly (w : List ℕ) (rs : List Rec) (v slots : List ℕ) (o : Outcome) : Type 0 where
   pub done : o .number ≡ 0
   pub exact : SameRecords (foundBy w v) (inside (domains w) v rs)
+  -- in the order of the tree: page order, children before the next entry
+  pub order : foundBy w v ≡ inside (domains w) v (recordsOf (stateOf L w))
   pub total : getD (o .values) 0 0 ≡ length (inside (domains w) v rs)
   -- with slots enough the first take the locations in walk order and later slots are unchanged; with too few all take the first locations
   pub enough : length (foundBy w v) ≤ length slots → o .after .answer ≡ map (λ r. r .loc) (foundBy w v) ++ drop (length (foundBy w v)) slots
