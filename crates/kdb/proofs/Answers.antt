@@ -40,7 +40,7 @@ listing-good : (t : Tour) (w slots : List ℕ) → t .bad ≡ false
     → (listing t w slots .number ≡ 0) × (getD (listing t w slots .values) 0 0 ≡ length (t .found)) × (listing t w slots .after .answer ≡ filled slots (t .found))
 listing-good t w slots e = rw e (refl, refl, refl)
 
-map-loc : (ss : List Spot) → map (λ r. r .loc) (map (λ x. x .rec) ss) ≡ map (λ x. x .rec .loc) ss
+pub map-loc : (ss : List Spot) → map (λ r. r .loc) (map (λ x. x .rec) ss) ≡ map (λ x. x .rec .loc) ss
 map-loc [] = refl
 map-loc (x ∷ ss) = ap (λ l. x .rec .loc ∷ l) (map-loc ss)
 

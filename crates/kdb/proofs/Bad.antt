@@ -1,25 +1,28 @@
--- When find and list are refused by a bad page: the walks stop exactly where specs/Bad.antt says, on any words, and a find that is not
--- refused ends in the last page on its list.
+-- When find and list are refused, what they read and what list finds, on any words: the walks of Walk.antt go by the trails of
+-- specs/Bad.antt, and a find that is not refused ends in the last page on its list.
 use mathlib.Core.Bool.{Bool, true, false, _&&_, _||_, not, cond}
-use mathlib.Core.List.{List, [], _∷_, _++_, map}
+use mathlib.Core.List.{List, [], _∷_, _++_, map, map-append, append-nil}
 use mathlib.Core.Logic.{_↔_}
 use mathlib.Core.Path.{_≡_, refl, sym, ap, ap₂, _∙_, subst}
 use Prim.Native.Nat.{ℕ, zero, suc, _+_, _-_, _≤_}
 use native.Mathlib.Omega.{arith}
-use lib.Dec.{T, leb, ltb, eqb, leb→le, nleb→lt, ltb→lt, le→leb, lt→ltb, eqb→eq, T-not, not-T}
-use lib.ListN.{length, take, length-append}
-use Rattle.kdb.specs.Lists.{bit, only, tally, anyOf, sum, lastOr, same}
-use Rattle.kdb.specs.Box.{Box, Key, within, meets}
+use lib.Dec.{T, leb, ltb, eqb, leb→le, nleb→lt, nltb→le, ltb→lt, le→leb, lt→ltb, eqb→eq, T-not, not-T}
+use lib.ListN.{length, take, drop, length-map}
+use lib.Seq.{take-all, take-nil}
+use borrow.Author.Tests.{lt-leb, le-leb}
+use Rattle.kdb.specs.Lists.{bit, only, tally, anyOf, gather, lastOr, same}
+use Rattle.kdb.specs.Box.{Box, Key, within, inWindow, meets}
 use Rattle.kdb.specs.Tree.{Rec}
-use Rattle.kdb.specs.Pages.{Ent, regionsPer, pointsPer, recsIn, entsIn}
+use Rattle.kdb.specs.Pages.{Ent, Page, blank, points, regions, regionsPer, pointsPer, recsIn, entsIn, isRegions}
 use Rattle.kdb.specs.Pool.{domains, rootAt, levelsAt, pagesIn, isPage, view}
 use Rattle.kdb.specs.Walk.{Spot, Tour, still, follow, through, goodPoints, goodRegions, tour, bounded, listWalk, End, rootless, bad, absent, here, Search, ends, after, into, seek, findWalk, spots, spotOf}
-use Rattle.kdb.specs.Bad.{leads, kindAt, sizeAt, badPage, findBad, listBad, listReads, findStops, listStops, listCount}
+use Rattle.kdb.specs.Bad.{Stop, spoilt, kindAt, sizeAt, badPage, badFor, trail, findTrail, listTrail, upToBad, findStops, listStops, listRecords}
 use Rattle.kdb.specs.Calls.{L, Buffers, finding, listing}
-use Rattle.kdb.specs.Demands.{keyed}
-use Rattle.kdb.proofs.Lists.{cases, of-false, some-many, length-only}
+use Rattle.kdb.specs.Demands.{keyed, slotted}
+use Rattle.kdb.proofs.Lists.{cases, and-l, is-true, is-false, some-many, length-only, gather-append}
 use Rattle.kdb.proofs.Pages.{word-at}
 use Rattle.kdb.proofs.Walk.{at-page}
+use Rattle.kdb.proofs.Answers.{map-loc}
 use Rattle.kdb.proofs.Words.{kind, count, good-points, good-regions}
 
 -- tests and their opposites
@@ -68,31 +71,121 @@ page-and true g h e = e refl
 page-and false g h e = refl
 
 -- a page by the walk's tests and by the words: good, bad, or no page
-by-tests : {A : Type 0} (Q : A → Bool → Type 0) (p g : Bool) (x y z : A) → (T p → T g → Q x false) → Q y true → Q z true → Q (cond p (cond g x y) z) (not (p && g))
+by-tests : {A : Type 0} (Q : A → Bool → Type 0) (p g : Bool) (x y z : A) → (T p → T g → Q x false) → (p ≡ true → Q y true) → (p ≡ false → Q z true) → Q (cond p (cond g x y) z) (not (p && g))
 by-tests Q true true x y z f a b = f tt tt
-by-tests Q true false x y z f a b = a
-by-tests Q false g x y z f a b = b
+by-tests Q true false x y z f a b = a refl
+by-tests Q false g x y z f a b = b refl
 
--- a walk of list that stops exactly if b holds, and else reads n pages
-record Toured (t : Tour) (b : Bool) (n : ℕ) : Type 0 where
-  stops : t .bad ≡ b
-  reads : T (not b) → length (t .read) ≡ n
-
-followed : (a c : Tour) (b d : Bool) (m n : ℕ) → Toured a b m → Toured c d n → Toured (follow a c) (b || d) (m + n)
-followed a c true d m n x y = record { stops = rw (x .stops) refl; reads = λ t. absurd t }
-followed a c false d m n x y =
-    record { stops = rw (x .stops) (y .stops); reads = λ t. rw (x .stops) (length-append (a .read) (c .read) ∙ ap₂ _+_ (x .reads tt) (y .reads t)) }
-
-through-toured : (v : Box) (below : ℕ → Tour) (b : ℕ → Bool) (m : ℕ → ℕ) → ((c : ℕ) → Toured (below c) (b c) (m c)) → (es : List Ent)
-    → Toured (through below v es) (anyOf (λ e. meets (e .box) v && b (e .child)) es) (sum (map (λ e. cond (meets (e .box) v) (m (e .child)) 0) es))
-through-toured v below b m h [] = record { stops = refl; reads = λ t. refl }
-through-toured v below b m h (e ∷ es) =
-    followed (cond (meets (e .box) v) (below (e .child)) still) (through below v es) (meets (e .box) v && b (e .child)) (anyOf (λ e. meets (e .box) v && b (e .child)) es)
-    (cond (meets (e .box) v) (m (e .child)) 0) (sum (map (λ e. cond (meets (e .box) v) (m (e .child)) 0) es)) (go (meets (e .box) v)) (through-toured v below b m h es)
+-- one trail after another
+spoilt-append : (a b : List Stop) → spoilt (a ++ b) ≡ spoilt a || spoilt b
+spoilt-append [] b = refl
+spoilt-append (s ∷ a) b = go (s .bad) (spoilt-append a b)
   where
-    go : (t : Bool) → Toured (cond t (below (e .child)) still) (t && b (e .child)) (cond t (m (e .child)) 0)
-    go true = h (e .child)
-    go false = record { stops = refl; reads = λ t. refl }
+    go : (t : Bool) → spoilt (a ++ b) ≡ spoilt a || spoilt b → t || spoilt (a ++ b) ≡ t || spoilt a || spoilt b
+    go true e = refl
+    go false e = e
+
+module _ (L : ℕ) (w : List ℕ) where
+  read-stops : (a b : List Stop) → spoilt a ≡ true → upToBad L w (a ++ b) ≡ upToBad L w a
+  read-stops [] b e = absurd (let z : _≡_ {A = ℕ} 0 1 = cc in omega arith)
+  read-stops (s ∷ a) b e = go (s .bad) e (read-stops a b)
+    where
+      go : (t : Bool) → t || spoilt a ≡ true → (spoilt a ≡ true → upToBad L w (a ++ b) ≡ upToBad L w a)
+          → cond t (cond (isPage L w (s .page)) (s .page ∷ []) []) (s .page ∷ upToBad L w (a ++ b)) ≡ cond t (cond (isPage L w (s .page)) (s .page ∷ []) []) (s .page ∷ upToBad L w a)
+      go true e i = refl
+      go false e i = ap (λ l. s .page ∷ l) (i e)
+
+  read-goes : (a b : List Stop) → spoilt a ≡ false → upToBad L w (a ++ b) ≡ upToBad L w a ++ upToBad L w b
+  read-goes [] b e = refl
+  read-goes (s ∷ a) b e = go (s .bad) e (read-goes a b)
+    where
+      go : (t : Bool) → t || spoilt a ≡ false → (spoilt a ≡ false → upToBad L w (a ++ b) ≡ upToBad L w a ++ upToBad L w b)
+          → cond t (cond (isPage L w (s .page)) (s .page ∷ []) []) (s .page ∷ upToBad L w (a ++ b)) ≡ cond t (cond (isPage L w (s .page)) (s .page ∷ []) []) (s .page ∷ upToBad L w a) ++ upToBad L w b
+      go true e i = absurd (let z : _≡_ {A = ℕ} 0 1 = cc in omega arith)
+      go false e i = ap (λ l. s .page ∷ l) (i e)
+
+  -- no more is read than the trail has, and all of it where none is bad
+  read-most : (ss : List Stop) → length (upToBad L w ss) ≤ length ss
+  read-most [] = omega arith
+  read-most (s ∷ ss) = go (s .bad) (isPage L w (s .page)) (read-most ss)
+    where
+      go : (t p : Bool) → length (upToBad L w ss) ≤ length ss → length (cond t (cond p (s .page ∷ []) []) (s .page ∷ upToBad L w ss)) ≤ suc (length ss)
+      go true true i = omega arith
+      go true false i = omega arith
+      go false p i = omega arith
+
+  read-all : (ss : List Stop) → spoilt ss ≡ false → length (upToBad L w ss) ≡ length ss
+  read-all [] e = refl
+  read-all (s ∷ ss) e = go (s .bad) e (read-all ss)
+    where
+      go : (t : Bool) → t || spoilt ss ≡ false → (spoilt ss ≡ false → length (upToBad L w ss) ≡ length ss)
+          → length (cond t (cond (isPage L w (s .page)) (s .page ∷ []) []) (s .page ∷ upToBad L w ss)) ≡ suc (length ss)
+      go true e i = absurd (let z : _≡_ {A = ℕ} 0 1 = cc in omega arith)
+      go false e i = ap suc (i e)
+
+  -- a bad page is read if it is one
+  read-bad : (j : ℕ) → isPage L w j ≡ true → j ∷ [] ≡ upToBad L w (record { page = j; bad = true } ∷ [])
+  read-bad j e = rw e refl
+
+  read-none : (j : ℕ) → isPage L w j ≡ false → [] ≡ upToBad L w (record { page = j; bad = true } ∷ [])
+  read-none j e = rw e refl
+
+  -- the records of a trail that the window holds
+  abbrev pub recordsOn : Box → List Stop → List Rec
+  recordsOn v ss = gather (λ s. only (λ r. inWindow v (r .key)) (recsIn (view L w (s .page)))) ss
+
+  -- a walk of list by its trail
+  record Toured (v : Box) (t : Tour) (ss : List Stop) : Type 0 where
+    stops : t .bad ≡ spoilt ss
+    reads : t .read ≡ upToBad L w ss
+    finds : spoilt ss ≡ false → map (λ x. x .rec) (t .found) ≡ recordsOn v ss
+
+  followed : (v : Box) (a c : Tour) (xs ys : List Stop) → Toured v a xs → Toured v c ys → Toured v (follow a c) (xs ++ ys)
+  followed v a c xs ys x y = go (spoilt xs) refl
+    where
+      go : (b : Bool) → spoilt xs ≡ b → Toured v (follow a c) (xs ++ ys)
+      go true e =
+          let q : a .bad ≡ true = x .stops ∙ e in
+          let s : spoilt (xs ++ ys) ≡ true = spoilt-append xs ys ∙ ap (λ b. b || spoilt ys) e in
+          subst (λ t. Toured v t (xs ++ ys)) (sym (ap (λ b. cond b a (record { read = a .read ++ c .read; bad = c .bad; found = a .found ++ c .found })) q))
+          (record { stops = q ∙ sym s; reads = x .reads ∙ sym (read-stops xs ys e); finds = λ n. absurd (let z : _≡_ {A = ℕ} 0 1 = ap (λ b. cond b 1 0) (sym n ∙ s) in omega arith) })
+      go false e =
+          let q : a .bad ≡ false = x .stops ∙ e in
+          let s : spoilt (xs ++ ys) ≡ spoilt ys = spoilt-append xs ys ∙ ap (λ b. b || spoilt ys) e in
+          subst (λ t. Toured v t (xs ++ ys)) (sym (ap (λ b. cond b a (record { read = a .read ++ c .read; bad = c .bad; found = a .found ++ c .found })) q))
+          (record {
+            stops = y .stops ∙ sym s;
+            reads = ap₂ _++_ (x .reads) (y .reads) ∙ sym (read-goes xs ys e);
+            finds = λ n.
+                map-append (λ x. x .rec) (a .found) (c .found) ∙ (ap₂ _++_ (x .finds e) (y .finds (sym s ∙ n)) ∙ sym (gather-append (λ s. only (λ r. inWindow v (r .key)) (recsIn (view L w (s .page)))) xs ys));
+          })
+
+  through-toured : (v : Box) (below : ℕ → Tour) (ss : ℕ → List Stop) → ((c : ℕ) → Toured v (below c) (ss c)) → (es : List Ent)
+      → Toured v (through below v es) (gather (λ e. ss (e .child)) (only (λ e. meets (e .box) v) es))
+  through-toured v below ss h [] = record { stops = refl; reads = refl; finds = λ n. refl }
+  through-toured v below ss h (e ∷ es) = go (meets (e .box) v) (through-toured v below ss h es)
+    where
+      go : (t : Bool) → Toured v (through below v es) (gather (λ e. ss (e .child)) (only (λ e. meets (e .box) v) es))
+          → Toured v (follow (cond t (below (e .child)) still) (through below v es)) (gather (λ e. ss (e .child)) (cond t (e ∷ only (λ e. meets (e .box) v) es) (only (λ e. meets (e .box) v) es)))
+      go true i = followed v (below (e .child)) (through below v es) (ss (e .child)) (gather (λ e. ss (e .child)) (only (λ e. meets (e .box) v) es)) (h (e .child)) i
+      go false i = followed v still (through below v es) [] (gather (λ e. ss (e .child)) (only (λ e. meets (e .box) v) es)) (record { stops = refl; reads = refl; finds = λ n. refl }) i
+
+-- the records of a page, with their slots or without
+spots-in : (v : Box) (j i : ℕ) (rs : List Rec) → map (λ x. x .rec) (only (λ s. inWindow v (s .rec .key)) (spots j i rs)) ≡ only (λ r. inWindow v (r .key)) rs
+spots-in v j i [] = refl
+spots-in v j i (r ∷ rs) = go (inWindow v (r .key)) (spots-in v j (suc i) rs)
+  where
+    go : (t : Bool) → map (λ x. x .rec) (only (λ s. inWindow v (s .rec .key)) (spots j (suc i) rs)) ≡ only (λ r. inWindow v (r .key)) rs
+        → map (λ x. x .rec) (cond t (record { page = j; slot = i; rec = r } ∷ only (λ s. inWindow v (s .rec .key)) (spots j (suc i) rs)) (only (λ s. inWindow v (s .rec .key)) (spots j (suc i) rs)))
+        ≡ cond t (r ∷ only (λ r. inWindow v (r .key)) rs) (only (λ r. inWindow v (r .key)) rs)
+    go true e = ap (λ l. r ∷ l) e
+    go false e = e
+
+-- a region page has no records
+no-records : (v : Page) → T (isRegions v) → recsIn v ≡ []
+no-records blank t = absurd t
+no-records (points d rs) t = absurd t
+no-records (regions d es) t = refl
 
 -- how find's walk ended, by a test b for bad pages and by the records that the pages have
 abbrev EndsAt : (ℕ → List Rec) → Key → List ℕ → Bool → End → Type 0
@@ -100,9 +193,6 @@ EndsAt recs p read b rootless = ⊥
 EndsAt recs p read b bad = T b
 EndsAt recs p read b (absent i) = T (not b) × ((d : ℕ) → lastOr d read ≡ i) × (tally (keyed p) (recs i) ≡ 0)
 EndsAt recs p read b (here x) = T (not b) × ((d : ℕ) → lastOr d read ≡ x .page) × (take 1 (only (keyed p) (recs (x .page))) ≡ x .rec ∷ [])
-
-record Ended (recs : ℕ → List Rec) (p : Key) (g : Search) (b : Bool) : Type 0 where
-  ended : EndsAt recs p (g .read) b (g .end)
 
 -- the first record with the keys among the records from slot i on
 first-spot : (p : Key) (j i : ℕ) (rs : List Rec) (P : End → Type 0) → (tally (keyed p) rs ≡ 0 → P (absent j))
@@ -117,24 +207,42 @@ first-spot p j i (r ∷ rs) P a h = go (same p (r .key)) a h (first-spot p j (su
     go true a h later = h (record { page = j; slot = i; rec = r }) refl refl
     go false a h later = later (λ z. a (omega (arith, z))) h
 
-into-ended : (recs : ℕ → List Rec) (p : Key) (below : ℕ → Search) (b : ℕ → Bool) → ((c : ℕ) → Ended recs p (below c) (b c)) → (es : List Ent)
-    → Ended recs p (into below p es) (leads b (only (λ e. within (e .box) p) es))
-into-ended recs p below b h [] = record { ended = tt }
-into-ended recs p below b h (e ∷ es) = go (within (e .box) p) (into-ended recs p below b h es)
-  where
-    go : (t : Bool) → Ended recs p (into below p es) (leads b (only (λ e. within (e .box) p) es))
-        → Ended recs p (cond t (below (e .child)) (into below p es)) (leads b (cond t (e ∷ only (λ e. within (e .box) p) es) (only (λ e. within (e .box) p) es)))
-    go true i = h (e .child)
-    go false i = i
+module _ (L : ℕ) (w : List ℕ) where
+  -- a walk of find by its trail
+  record Ended (p : Key) (g : Search) (ss : List Stop) : Type 0 where
+    ended : EndsAt (λ i. recsIn (view L w i)) p (g .read) (spoilt ss) (g .end)
+    reads : g .read ≡ upToBad L w ss
 
-after-ended : (recs : ℕ → List Rec) (p : Key) (j : ℕ) (g : Search) (b : Bool) → Ended recs p g b → Ended recs p (after j g) b
-after-ended recs p j g b h = record { ended = go (g .end) (h .ended) }
-  where
-    go : (e : End) → EndsAt recs p (g .read) b e → EndsAt recs p (j ∷ g .read) b e
-    go rootless a = a
-    go bad a = a
-    go (absent i) a = (a .0, λ d. a .1 j, a .2)
-    go (here x) a = (a .0, λ d. a .1 j, a .2)
+  -- into the first entry that holds the point, where one does
+  into-ended : (p : Key) (below : ℕ → Search) (ss : ℕ → List Stop) → ((c : ℕ) → Ended p (below c) (ss c)) → (es : List Ent) → T (anyOf (λ e. within (e .box) p) es)
+      → Ended p (into below p es) (gather (λ e. ss (e .child)) (take 1 (only (λ e. within (e .box) p) es)))
+  into-ended p below ss h [] t = absurd t
+  into-ended p below ss h (e ∷ es) t = go (within (e .box) p) t (into-ended p below ss h es)
+    where
+      go : (b : Bool) → T (b || anyOf (λ e. within (e .box) p) es)
+          → (T (anyOf (λ e. within (e .box) p) es) → Ended p (into below p es) (gather (λ e. ss (e .child)) (take 1 (only (λ e. within (e .box) p) es))))
+          → Ended p (cond b (below (e .child)) (into below p es)) (gather (λ e. ss (e .child)) (take 1 (cond b (e ∷ only (λ e. within (e .box) p) es) (only (λ e. within (e .box) p) es))))
+      go true t i = subst (Ended p (below (e .child))) (sym (append-nil (ss (e .child)))) (h (e .child))
+      go false t i = i t
+
+  -- where none does, the walk ends
+  into-none : (p : Key) (below : ℕ → Search) (es : List Ent) → anyOf (λ e. within (e .box) p) es ≡ false → into below p es ≡ ends [] bad
+  into-none p below [] e = refl
+  into-none p below (a ∷ es) e = go (within (a .box) p) e (into-none p below es)
+    where
+      go : (b : Bool) → b || anyOf (λ e. within (e .box) p) es ≡ false → (anyOf (λ e. within (e .box) p) es ≡ false → into below p es ≡ ends [] bad)
+          → cond b (below (a .child)) (into below p es) ≡ ends [] bad
+      go true e i = absurd (let z : _≡_ {A = ℕ} 0 1 = cc in omega arith)
+      go false e i = i e
+
+  after-ended : (p : Key) (j : ℕ) (g : Search) (ss : List Stop) → Ended p g ss → Ended p (after j g) (record { page = j; bad = false } ∷ ss)
+  after-ended p j g ss h = record { ended = go (g .end) (h .ended); reads = ap (λ l. j ∷ l) (h .reads) }
+    where
+      go : (e : End) → EndsAt (λ i. recsIn (view L w i)) p (g .read) (spoilt ss) e → EndsAt (λ i. recsIn (view L w i)) p (j ∷ g .read) (spoilt ss) e
+      go rootless a = a
+      go bad a = a
+      go (absent i) a = (a .0, λ d. a .1 j, a .2)
+      go (here x) a = (a .0, λ d. a .1 j, a .2)
 
 into-levels : (below : ℕ → Search) (p : Key) (m : ℕ) → ((c : ℕ) → (below c .end ≡ bad → ⊥) → length (below c .read) ≡ m) → (es : List Ent)
     → (into below p es .end ≡ bad → ⊥) → length (into below p es .read) ≡ m
@@ -160,68 +268,103 @@ module _ (L : ℕ) (w : List ℕ) (room : 4 ≤ L) where
       (not-below R (sizeAt L w j) ∙ ap (λ a. leb a R) size)
       ∙ ap not (page-and (isPage L w j) (eqb (kind L w j) 1 && leb 1 (count L w j) && leb (count L w j) R) (goodRegions L w j) (λ h. sym (good-regions L w j room h))))
 
-  at-points : {A : Type 0} (Q : A → Bool → Type 0) (j : ℕ) (x y z : A) → Q x false → Q y true → Q z true
+  at-points : {A : Type 0} (Q : A → Bool → Type 0) (j : ℕ) (x y z : A) → Q x false → (isPage L w j ≡ true → Q y true) → (isPage L w j ≡ false → Q z true)
       → Q (cond (isPage L w j) (cond (goodPoints L w j) x y) z) (badPage L w zero j)
   at-points Q j x y z f a b =
       subst (Q (cond (isPage L w j) (cond (goodPoints L w j) x y) z)) (sym (bad-points j)) (by-tests Q (isPage L w j) (goodPoints L w j) x y z (λ _ _. f) a b)
 
-  -- a region page, with a test m that counts only where the page is good
-  at-regions : {A : Type 0} (Q : A → Bool → Type 0) (n j : ℕ) (m : Bool) (x y z : A) → Q x m → Q y true → Q z true
-      → Q (cond (isPage L w j) (cond (goodRegions L w j) x y) z) (badPage L w (suc n) j || m)
-  at-regions Q n j m x y z f a b =
-      subst (λ t. Q (cond (isPage L w j) (cond (goodRegions L w j) x y) z) (t || m)) (sym (bad-regions n j))
-      (by-tests (λ u t. Q u (t || m)) (isPage L w j) (goodRegions L w j) x y z (λ _ _. f) a b)
+  at-regions : {A : Type 0} (Q : A → Bool → Type 0) (n j : ℕ) (x y z : A) → (T (isPage L w j) → T (goodRegions L w j) → Q x false) → (isPage L w j ≡ true → Q y true)
+      → (isPage L w j ≡ false → Q z true) → Q (cond (isPage L w j) (cond (goodRegions L w j) x y) z) (badPage L w (suc n) j)
+  at-regions Q n j x y z f a b =
+      subst (Q (cond (isPage L w j) (cond (goodRegions L w j) x y) z)) (sym (bad-regions n j)) (by-tests Q (isPage L w j) (goodRegions L w j) x y z f a b)
 
-  -- list stops exactly if it comes to a bad page, and else reads as many pages as it has to
-  toured : (v : Box) (n j : ℕ) → Toured (tour L w v n j) (listBad L w v n j) (listReads L w v n j)
+  -- a region page has no records
+  regions-bare : (j : ℕ) → T (goodRegions L w j) → recsIn (view L w j) ≡ []
+  regions-bare j g = no-records (view L w j) (and-l (isRegions (view L w j)) _ (and-l (isRegions (view L w j) && leb 1 (length (entsIn (view L w j)))) _ g))
+
+  -- list goes by its trail
+  abbrev listFrom : Box → ℕ → ℕ → List Stop
+  listFrom v n j = trail L w (badPage L w) (λ es. only (λ e. meets (e .box) v) es) n j
+
+  toured : (v : Box) (n j : ℕ) → Toured L w v (tour L w v n j) (listFrom v n j)
   toured v zero j =
-      at-points (λ t b. Toured t b 1) j _ _ _ (record { stops = refl; reads = λ t. refl }) (record { stops = refl; reads = λ t. absurd t }) (record { stops = refl; reads = λ t. absurd t })
+      at-points (λ t b. Toured L w v t (record { page = j; bad = b } ∷ [])) j _ _ _
+      (record { stops = refl; reads = refl; finds = λ n. spots-in v j 0 (recsIn (view L w j)) ∙ sym (append-nil (only (λ r. inWindow v (r .key)) (recsIn (view L w j)))) })
+      (λ e. record { stops = refl; reads = read-bad L w j e; finds = λ n. absurd (let z : _≡_ {A = ℕ} 0 1 = cc in omega arith) })
+      (λ e. record { stops = refl; reads = read-none L w j e; finds = λ n. absurd (let z : _≡_ {A = ℕ} 0 1 = cc in omega arith) })
   toured v (suc n) j =
       let es = entsIn (view L w j) in
-      let m = listReads L w v (suc n) j in
-      let i = through-toured v (tour L w v n) (listBad L w v n) (listReads L w v n) (toured v n) es in
-      at-regions (λ t b. Toured t b m) n j (anyOf (λ e. meets (e .box) v && listBad L w v n (e .child)) es) _ _ _
-      (record { stops = i .stops; reads = λ t. omega (arith, i .reads t) }) (record { stops = refl; reads = λ t. absurd t }) (record { stops = refl; reads = λ t. absurd t })
+      let ss = gather (λ e. listFrom v n (e .child)) (only (λ e. meets (e .box) v) es) in
+      let i = through-toured L w v (tour L w v n) (listFrom v n) (toured v n) es in
+      at-regions (λ t b. Toured L w v t (record { page = j; bad = b } ∷ cond b [] ss)) n j _ _ _
+      (λ p g. record {
+        stops = i .stops;
+        reads = ap (λ l. j ∷ l) (i .reads);
+        finds = λ n. i .finds n ∙ ap (λ rs. only (λ r. inWindow v (r .key)) rs ++ recordsOn L w v ss) (sym (regions-bare j g));
+      })
+      (λ e. record { stops = refl; reads = read-bad L w j e; finds = λ n. absurd (let z : _≡_ {A = ℕ} 0 1 = cc in omega arith) })
+      (λ e. record { stops = refl; reads = read-none L w j e; finds = λ n. absurd (let z : _≡_ {A = ℕ} 0 1 = cc in omega arith) })
 
-  bounded-stops : (N : ℕ) (t : Tour) (b : Bool) (m : ℕ) → Toured t b m → bounded L w N t .bad ≡ b || leb N m
-  bounded-stops N t true m h =
-      cases (λ x. cond x t (record { read = take (N - 1) (t .read); bad = true; found = [] }) .bad ≡ true) (ltb (length (t .read)) N) (λ _. h .stops) (λ _. refl)
-  bounded-stops N t false m h =
-      rw (h .reads tt) (cases (λ x. cond x t (record { read = take (N - 1) (t .read); bad = true; found = [] }) .bad ≡ not x) (ltb m N) (λ _. h .stops) (λ _. refl) ∙ not-below m N)
+  -- with its bound
+  pub record Bound (v : Box) (N : ℕ) (t : Tour) (ss : List Stop) : Type 0 where
+    pub stops : t .bad ≡ spoilt ss || leb N (length ss)
+    pub reads : t .read ≡ take (N - 1) (upToBad L w ss)
+    pub finds : t .bad ≡ false → (map (λ x. x .rec) (t .found) ≡ recordsOn L w v ss) × (length (t .read) ≡ length ss)
 
-  bounded-reads : (N : ℕ) (t : Tour) (b : Bool) (m : ℕ) → Toured t b m → bounded L w N t .bad ≡ false → length (bounded L w N t .read) ≡ m
-  bounded-reads N t b m h =
-      cases (λ x. cond x t (record { read = take (N - 1) (t .read); bad = true; found = [] }) .bad ≡ false
-      → length (cond x t (record { read = take (N - 1) (t .read); bad = true; found = [] }) .read) ≡ m) (ltb (length (t .read)) N)
-      (λ _ e. h .reads (of-false b (sym (h .stops) ∙ e))) (λ _ e. absurd (let z : _≡_ {A = ℕ} 0 1 = cc in omega arith))
+  bound : (v : Box) (N : ℕ) (t : Tour) (ss : List Stop) → Toured L w v t ss → Bound v N (bounded L w N t) ss
+  bound v N t ss h =
+      cases (λ x. Bound v N (cond x t (record { read = take (N - 1) (t .read); bad = true; found = [] })) ss) (ltb (length (t .read)) N)
+      (λ y. let l = ltb→lt (length (t .read)) N y in
+      record {
+        stops = within-bound (spoilt ss) refl (omega (arith, ap length (h .reads)));
+        reads = h .reads ∙ sym (take-all (N - 1) (upToBad L w ss) (omega (arith, ap length (h .reads))));
+        finds = λ e. let n : spoilt ss ≡ false = sym (h .stops) ∙ e in (h .finds n, ap length (h .reads) ∙ read-all L w ss n);
+      })
+      (λ y. let l = nltb→le (length (t .read)) N y in
+      record {
+        stops = sym (past-bound (spoilt ss) (omega (arith, ap length (h .reads), read-most L w ss)));
+        reads = ap (take (N - 1)) (h .reads);
+        finds = λ e. absurd (let z : _≡_ {A = ℕ} 0 1 = cc in omega arith);
+      })
+    where
+      within-bound : (b : Bool) → spoilt ss ≡ b → suc (length (upToBad L w ss)) ≤ N → t .bad ≡ b || leb N (length ss)
+      within-bound true e l = h .stops ∙ e
+      within-bound false e l = h .stops ∙ (e ∙ sym (lt-leb N (length ss) (omega (arith, read-all L w ss e))))
 
-  pub list-stops : (v : Box) → listWalk L w v .bad ≡ listStops L w v
-  list-stops v =
-      cases (λ z. cond z still (bounded L w (pagesIn L w) (tour L w v (levelsAt w - 1) (rootAt w))) .bad
-      ≡ not z && (listBad L w v (levelsAt w - 1) (rootAt w) || leb (pagesIn L w) (listReads L w v (levelsAt w - 1) (rootAt w)))) (eqb (levelsAt w) 0)
-      (λ _. refl) (λ _. bounded-stops (pagesIn L w) (tour L w v (levelsAt w - 1) (rootAt w)) _ _ (toured v (levelsAt w - 1) (rootAt w)))
+      past-bound : (b : Bool) → N ≤ length ss → b || leb N (length ss) ≡ true
+      past-bound true l = refl
+      past-bound false l = le-leb N (length ss) l
 
-  pub list-complete : (v : Box) → listWalk L w v .bad ≡ false → length (listWalk L w v .read) ≡ listCount L w v
-  list-complete v =
-      let n = levelsAt w - 1 in
-      cases (λ z. cond z still (bounded L w (pagesIn L w) (tour L w v n (rootAt w))) .bad ≡ false
-      → length (cond z still (bounded L w (pagesIn L w) (tour L w v n (rootAt w))) .read) ≡ cond z 0 (listReads L w v n (rootAt w))) (eqb (levelsAt w) 0)
-      (λ _ e. refl) (λ _ e. bounded-reads (pagesIn L w) (tour L w v n (rootAt w)) (listBad L w v n (rootAt w)) (listReads L w v n (rootAt w)) (toured v n (rootAt w)) e)
+  pub list-bound : 1 ≤ pagesIn L w → (v : Box) → Bound v (pagesIn L w) (listWalk L w v) (listTrail L w v)
+  list-bound n v =
+      let m = levelsAt w - 1 in
+      cases (λ z. Bound v (pagesIn L w) (cond z still (bounded L w (pagesIn L w) (tour L w v m (rootAt w)))) (cond z [] (listFrom v m (rootAt w)))) (eqb (levelsAt w) 0)
+      (λ _. record { stops = sym (lt-leb (pagesIn L w) 0 (omega arith)); reads = sym (take-nil (pagesIn L w - 1)); finds = λ e. (refl, refl) })
+      (λ _. bound v (pagesIn L w) (tour L w v m (rootAt w)) (listFrom v m (rootAt w)) (toured v m (rootAt w)))
 
-  -- find ends at a bad page exactly if it comes to one, and else in the last page read
-  sought : (p : Key) (n j : ℕ) → Ended (λ i. recsIn (view L w i)) p (seek L w p n j) (findBad L w p n j)
+  -- find goes by its trail
+  abbrev findFrom : Key → ℕ → ℕ → List Stop
+  findFrom p n j = trail L w (badFor L w p) (λ es. take 1 (only (λ e. within (e .box) p) es)) n j
+
+  sought : (p : Key) (n j : ℕ) → Ended L w p (seek L w p n j) (findFrom p n j)
   sought p zero j =
       let recs : ℕ → List Rec = λ i. recsIn (view L w i) in
-      at-points (Ended recs p) j _ _ _
+      at-points (λ g b. Ended L w p g (record { page = j; bad = b } ∷ [])) j _ _ _
       (record {
         ended = first-spot p j 0 (recs j) (λ e. EndsAt recs p (j ∷ []) false e) (λ z. (tt, λ d. refl, z)) (λ x e q. (tt, λ d. sym e, ap (λ i. take 1 (only (keyed p) (recs i))) e ∙ q));
+        reads = refl;
       })
-      (record { ended = tt }) (record { ended = tt })
+      (λ e. record { ended = tt; reads = read-bad L w j e }) (λ e. record { ended = tt; reads = read-none L w j e })
   sought p (suc n) j =
-      let recs : ℕ → List Rec = λ i. recsIn (view L w i) in
       let es = entsIn (view L w j) in
-      at-regions (Ended recs p) n j (leads (findBad L w p n) (only (λ e. within (e .box) p) es)) _ _ _
-      (after-ended recs p j (into (seek L w p n) p es) _ (into-ended recs p (seek L w p n) (findBad L w p n) (sought p n) es)) (record { ended = tt }) (record { ended = tt })
+      let ss = gather (λ e. findFrom p n (e .child)) (take 1 (only (λ e. within (e .box) p) es)) in
+      let held = anyOf (λ e. within (e .box) p) es in
+      at-regions (λ g b. Ended L w p g (record { page = j; bad = b || not held } ∷ cond (b || not held) [] ss)) n j _ _ _
+      (λ y _. cases (λ b. held ≡ b → Ended L w p (after j (into (seek L w p n) p es)) (record { page = j; bad = not b } ∷ cond (not b) [] ss)) held
+      (λ t e. after-ended L w p j (into (seek L w p n) p es) ss (into-ended L w p (seek L w p n) (findFrom p n) (sought p n) es t))
+      (λ t e. subst (λ g. Ended L w p (after j g) (record { page = j; bad = true } ∷ [])) (sym (into-none L w p (seek L w p n) es e))
+      (record { ended = tt; reads = read-bad L w j (is-true (isPage L w j) y) })) refl)
+      (λ e. record { ended = tt; reads = read-bad L w j e }) (λ e. record { ended = tt; reads = read-none L w j e })
 
   -- a find that meets no bad page reads one page of each level
   seek-levels : (p : Key) (n j : ℕ) → (seek L w p n j .end ≡ bad → ⊥) → length (seek L w p n j .read) ≡ n + 1
@@ -238,13 +381,16 @@ module _ (L : ℕ) (w : List ℕ) (room : 4 ≤ L) where
       (λ t _. sym (eqb→eq (levelsAt w) 0 t)) (λ t h. omega (arith, some-many (levelsAt w) t, seek-levels p (levelsAt w - 1) (rootAt w) h))
 
   -- a property of a find with no root, and of one whose walk ended as it must, holds of every find
-  find-cases : (p : Key) (C : Search → Bool → Type 0) → C (ends [] rootless) false
-      → ((read : List ℕ) (e : End) (b : Bool) → EndsAt (λ i. recsIn (view L w i)) p read b e → C (ends read e) b) → C (findWalk L w p) (findStops L w p)
+  find-cases : (p : Key) (C : Search → List Stop → Type 0) → C (ends [] rootless) []
+      → ((read : List ℕ) (e : End) (ss : List Stop) → EndsAt (λ i. recsIn (view L w i)) p read (spoilt ss) e → read ≡ upToBad L w ss → C (ends read e) ss) → C (findWalk L w p) (findTrail L w p)
   find-cases p C r s =
       let n = levelsAt w - 1 in
       let g = seek L w p n (rootAt w) in
-      cases (λ z. C (cond z (ends [] rootless) g) (not z && findBad L w p n (rootAt w))) (eqb (levelsAt w) 0) (λ _. r)
-      (λ _. s (g .read) (g .end) (findBad L w p n (rootAt w)) (sought p n (rootAt w) .ended))
+      cases (λ z. C (cond z (ends [] rootless) g) (cond z [] (findFrom p n (rootAt w)))) (eqb (levelsAt w) 0) (λ _. r)
+      (λ _. let h = sought p n (rootAt w) in s (g .read) (g .end) (findFrom p n (rootAt w)) (h .ended) (h .reads))
+
+  pub find-trail : (p : Key) → findWalk L w p .read ≡ upToBad L w (findTrail L w p)
+  find-trail p = find-cases p (λ g ss. g .read ≡ upToBad L w ss) refl (λ read e ss a r. r)
 
 -- one that is first among those that pass a test is one of them
 first-counts : (g : Rec → Bool) (rs : List Rec) (r : Rec) → take 1 (only g rs) ≡ r ∷ [] → 1 ≤ tally g rs
@@ -263,39 +409,39 @@ module _ (w : List ℕ) (p : Key) (buffers : Buffers) where
   lastOf read = recsIn (view L w (lastOr 0 read))
 
   pub find-six : (finding (findWalk L w p) buffers .number ≡ 6) ↔ T (findStops L w p)
-  find-six = find-cases L w (omega arith) p (λ g b. (finding g buffers .number ≡ 6) ↔ T b) (λ z. absurd (omega arith), λ t. absurd t) go
+  find-six = find-cases L w (omega arith) p (λ g ss. (finding g buffers .number ≡ 6) ↔ T (spoilt ss)) (λ z. absurd (omega arith), λ t. absurd t) go
     where
-      go : (read : List ℕ) (e : End) (b : Bool) → EndsAt (λ i. recsIn (view L w i)) p read b e → (finding (ends read e) buffers .number ≡ 6) ↔ T b
-      go read rootless b a = absurd a
-      go read bad b a = (λ z. a, λ t. refl)
-      go read (absent i) b a = (λ z. absurd (omega arith), λ t. absurd (both b t (a .0)))
-      go read (here x) b a = (λ z. absurd (omega arith), λ t. absurd (both b t (a .0)))
+      go : (read : List ℕ) (e : End) (ss : List Stop) → EndsAt (λ i. recsIn (view L w i)) p read (spoilt ss) e → read ≡ upToBad L w ss → (finding (ends read e) buffers .number ≡ 6) ↔ T (spoilt ss)
+      go read rootless ss a r = absurd a
+      go read bad ss a r = (λ z. a, λ t. refl)
+      go read (absent i) ss a r = (λ z. absurd (omega arith), λ t. absurd (both (spoilt ss) t (a .0)))
+      go read (here x) ss a r = (λ z. absurd (omega arith), λ t. absurd (both (spoilt ss) t (a .0)))
 
   pub find-eight : (finding (findWalk L w p) buffers .number ≡ 8) ↔ (T (not (findStops L w p)) × (tally (keyed p) (lastOf (findWalk L w p .read)) ≡ 0))
   find-eight =
-      find-cases L w (omega arith) p (λ g b. (finding g buffers .number ≡ 8) ↔ (T (not b) × (tally (keyed p) (lastOf (g .read)) ≡ 0))) (λ z. (tt, refl), λ q. refl) go
+      find-cases L w (omega arith) p (λ g ss. (finding g buffers .number ≡ 8) ↔ (T (not (spoilt ss)) × (tally (keyed p) (lastOf (g .read)) ≡ 0))) (λ z. (tt, refl), λ q. refl) go
     where
-      go : (read : List ℕ) (e : End) (b : Bool) → EndsAt (λ i. recsIn (view L w i)) p read b e
-          → (finding (ends read e) buffers .number ≡ 8) ↔ (T (not b) × (tally (keyed p) (lastOf read) ≡ 0))
-      go read rootless b a = absurd a
-      go read bad b a = (λ z. absurd (omega arith), λ q. absurd (both b a (q .0)))
-      go read (absent i) b a = (λ z. (a .0, ap (λ j. tally (keyed p) (recsIn (view L w j))) (a .1 0) ∙ a .2), λ q. refl)
-      go read (here x) b a = (
+      go : (read : List ℕ) (e : End) (ss : List Stop) → EndsAt (λ i. recsIn (view L w i)) p read (spoilt ss) e → read ≡ upToBad L w ss
+          → (finding (ends read e) buffers .number ≡ 8) ↔ (T (not (spoilt ss)) × (tally (keyed p) (lastOf read) ≡ 0))
+      go read rootless ss a r = absurd a
+      go read bad ss a r = (λ z. absurd (omega arith), λ q. absurd (both (spoilt ss) a (q .0)))
+      go read (absent i) ss a r = (λ z. (a .0, ap (λ j. tally (keyed p) (recsIn (view L w j))) (a .1 0) ∙ a .2), λ q. refl)
+      go read (here x) ss a r = (
         λ z. absurd (omega arith),
         λ q. absurd (omega (arith, q .1, ap (λ j. tally (keyed p) (recsIn (view L w j))) (a .1 0), first-counts (keyed p) (recsIn (view L w (x .page))) (x .rec) (a .2))),
       )
 
   pub find-done : (finding (findWalk L w p) buffers .number ≡ 0) ↔ (T (not (findStops L w p)) × (1 ≤ tally (keyed p) (lastOf (findWalk L w p .read))))
   find-done =
-      find-cases L w (omega arith) p (λ g b. (finding g buffers .number ≡ 0) ↔ (T (not b) × (1 ≤ tally (keyed p) (lastOf (g .read)))))
+      find-cases L w (omega arith) p (λ g ss. (finding g buffers .number ≡ 0) ↔ (T (not (spoilt ss)) × (1 ≤ tally (keyed p) (lastOf (g .read)))))
       (λ z. absurd (omega arith), λ q. absurd (let z : 1 ≤ 0 = q .1 in omega arith)) go
     where
-      go : (read : List ℕ) (e : End) (b : Bool) → EndsAt (λ i. recsIn (view L w i)) p read b e
-          → (finding (ends read e) buffers .number ≡ 0) ↔ (T (not b) × (1 ≤ tally (keyed p) (lastOf read)))
-      go read rootless b a = absurd a
-      go read bad b a = (λ z. absurd (omega arith), λ q. absurd (both b a (q .0)))
-      go read (absent i) b a = (λ z. absurd (omega arith), λ q. absurd (omega (arith, q .1, ap (λ j. tally (keyed p) (recsIn (view L w j))) (a .1 0), a .2)))
-      go read (here x) b a = (
+      go : (read : List ℕ) (e : End) (ss : List Stop) → EndsAt (λ i. recsIn (view L w i)) p read (spoilt ss) e → read ≡ upToBad L w ss
+          → (finding (ends read e) buffers .number ≡ 0) ↔ (T (not (spoilt ss)) × (1 ≤ tally (keyed p) (lastOf read)))
+      go read rootless ss a r = absurd a
+      go read bad ss a r = (λ z. absurd (omega arith), λ q. absurd (both (spoilt ss) a (q .0)))
+      go read (absent i) ss a r = (λ z. absurd (omega arith), λ q. absurd (omega (arith, q .1, ap (λ j. tally (keyed p) (recsIn (view L w j))) (a .1 0), a .2)))
+      go read (here x) ss a r = (
         λ z. (a .0, omega (arith, ap (λ j. tally (keyed p) (recsIn (view L w j))) (a .1 0), first-counts (keyed p) (recsIn (view L w (x .page))) (x .rec) (a .2))),
         λ q. refl,
       )
@@ -304,15 +450,15 @@ module _ (w : List ℕ) (p : Key) (buffers : Buffers) where
       → finding (findWalk L w p) buffers .values ≡ map (λ r. r .loc) (take 1 (only (keyed p) (lastOf (findWalk L w p .read)))) ++ (length (findWalk L w p .read) ∷ [])
   find-located =
       find-cases L w (omega arith) p
-      (λ g b. finding g buffers .number ≡ 0 → finding g buffers .values ≡ map (λ r. r .loc) (take 1 (only (keyed p) (lastOf (g .read)))) ++ (length (g .read) ∷ []))
+      (λ g ss. finding g buffers .number ≡ 0 → finding g buffers .values ≡ map (λ r. r .loc) (take 1 (only (keyed p) (lastOf (g .read)))) ++ (length (g .read) ∷ []))
       (λ z. absurd (omega arith)) go
     where
-      go : (read : List ℕ) (e : End) (b : Bool) → EndsAt (λ i. recsIn (view L w i)) p read b e → finding (ends read e) buffers .number ≡ 0
+      go : (read : List ℕ) (e : End) (ss : List Stop) → EndsAt (λ i. recsIn (view L w i)) p read (spoilt ss) e → read ≡ upToBad L w ss → finding (ends read e) buffers .number ≡ 0
           → finding (ends read e) buffers .values ≡ map (λ r. r .loc) (take 1 (only (keyed p) (lastOf read))) ++ (length read ∷ [])
-      go read rootless b a z = absurd a
-      go read bad b a z = absurd (omega arith)
-      go read (absent i) b a z = absurd (omega arith)
-      go read (here x) b a z =
+      go read rootless ss a r z = absurd a
+      go read bad ss a r z = absurd (omega arith)
+      go read (absent i) ss a r z = absurd (omega arith)
+      go read (here x) ss a r z =
           ap (λ l. map (λ r. r .loc) l ++ (length read ∷ [])) (sym (ap (λ j. take 1 (only (keyed p) (recsIn (view L w j)))) (a .1 0) ∙ a .2))
 
 -- what list answers, by the bad pages and the bound
@@ -324,8 +470,26 @@ listing-done : (t : Tour) (w answer : List ℕ) (b : Bool) → t .bad ≡ b → 
 listing-done t w answer true e = rw e (λ z. absurd (omega arith), λ t. absurd t)
 listing-done t w answer false e = rw e (λ z. tt, λ t. refl)
 
-pub list-six : (w : List ℕ) (v : Box) (answer : List ℕ) → (listing (listWalk L w v) w answer .number ≡ 6) ↔ T (listStops L w v)
-list-six w v answer = listing-six (listWalk L w v) w answer (listStops L w v) (list-stops L w (omega arith) v)
+-- a list that is done gives what its walk found and read
+listing-told : (t : Tour) (w answer : List ℕ) (rs : List Rec) (n : ℕ) → t .bad ≡ false → map (λ x. x .rec) (t .found) ≡ rs → length (t .read) ≡ n
+    → (listing t w answer .values ≡ length rs ∷ n ∷ []) × (listing t w answer .after .answer ≡ slotted answer (map (λ r. r .loc) rs))
+listing-told t w answer rs n e f l =
+    let m : length (t .found) ≡ length rs = sym (length-map (t .found) (λ x. x .rec)) ∙ ap length f in
+    let locs : map (λ x. x .rec .loc) (t .found) ≡ map (λ r. r .loc) rs = sym (map-loc (t .found)) ∙ ap (map (λ r. r .loc)) f in
+    rw e (ap₂ (λ a b. a ∷ b ∷ []) m l, ap₂ (λ ls k. take (length answer) ls ++ drop k answer) locs (m ∙ sym (length-map rs (λ r. r .loc))))
 
-pub list-done : (w : List ℕ) (v : Box) (answer : List ℕ) → (listing (listWalk L w v) w answer .number ≡ 0) ↔ T (not (listStops L w v))
-list-done w v answer = listing-done (listWalk L w v) w answer (listStops L w v) (list-stops L w (omega arith) v)
+module _ (w : List ℕ) (pages : 1 ≤ pagesIn L w) (v : Box) (answer : List ℕ) where
+  pub list-six : (listing (listWalk L w v) w answer .number ≡ 6) ↔ T (listStops L w v)
+  list-six = listing-six (listWalk L w v) w answer (listStops L w v) (list-bound L w (omega arith) pages v .stops)
+
+  pub list-done : (listing (listWalk L w v) w answer .number ≡ 0) ↔ T (not (listStops L w v))
+  list-done = listing-done (listWalk L w v) w answer (listStops L w v) (list-bound L w (omega arith) pages v .stops)
+
+  pub list-told : listing (listWalk L w v) w answer .number ≡ 0
+      → (listing (listWalk L w v) w answer .values ≡ length (listRecords L w v) ∷ length (listTrail L w v) ∷ [])
+      × (listing (listWalk L w v) w answer .after .answer ≡ slotted answer (map (λ r. r .loc) (listRecords L w v)))
+  list-told z =
+      let b = list-bound L w (omega arith) pages v in
+      let e : listWalk L w v .bad ≡ false = b .stops ∙ is-false (listStops L w v) (list-done .0 z) in
+      let f = b .finds e in
+      listing-told (listWalk L w v) w answer (listRecords L w v) (length (listTrail L w v)) e (f .0) (f .1)

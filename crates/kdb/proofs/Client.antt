@@ -1,4 +1,4 @@
--- The frame program does what its client is told: a line that is written as specs/Client.antt says is read back as the call it asks for.
+-- The frame program does what its client is answerLine: a line that is written as specs/Client.antt says is read back as the call it asks for.
 use mathlib.Core.Bool.{Bool, true, false, _||_, not, cond}
 use mathlib.Core.List.{List, [], _∷_, _++_, map, append-assoc, append-nil}
 use mathlib.Core.Option.{Option, none, some}
@@ -11,7 +11,7 @@ use borrow.Author.Tests.{le-leb, eq-eqb, ne-eqb}
 use Rattle.kdb.specs.Lists.{every, Each, gather, andThen}
 use Rattle.kdb.specs.Calls.{L, Call, format, place, remove, find, list, Outcome, outcome}
 use Rattle.kdb.specs.Frames.{between, digit, bytesOf, wordsOf, digitOf, hex, new, call, unknown, newOf, placeOf, slots, withWords, frameOf, framed, parse, found, answerText, Reply, renewed, answered, obey, reply, lines, session}
-use Rattle.kdb.specs.Client.{digits, byteText, wordText, Word, told, Answered, Renewed, NoFrame, hexadecimal, upper, Client}
+use Rattle.kdb.specs.Client.{digits, byteText, wordText, Word, answerLine, Answered, Renewed, NoFrame, hexadecimal, upper, Client}
 use Rattle.kdb.proofs.Lists.{and-l, and-r, cases, every-up, each-append}
 use Rattle.kdb.proofs.Frames.{reply-long, lines-break, lines-last}
 
@@ -60,8 +60,8 @@ gather-hex : (vs : List ℕ) → gather (hex 8) vs ≡ gather wordText vs
 gather-hex [] = refl
 gather-hex (v ∷ vs) = ap₂ _++_ (hex-eight v) (gather-hex vs)
 
-answer-told : (o : Outcome) → answerText o ≡ told o
-answer-told o = ap₂ _++_ (hex-two (o .number)) (ap₂ _++_ (gather-hex (o .values)) (ap (λ l. l ++ (10 ∷ [])) (gather-hex (found o))))
+answer-line : (o : Outcome) → answerText o ≡ answerLine o
+answer-line o = ap₂ _++_ (hex-two (o .number)) (ap₂ _++_ (gather-hex (o .values)) (ap (λ l. l ++ (10 ∷ [])) (gather-hex (found o))))
 
 -- a byte and a word read back
 abbrev before : ℕ → Option (List ℕ) → Option (List ℕ)
@@ -112,7 +112,7 @@ ask f ws n =
     rw (le-leb (length (byteText f ++ gather wordText ws)) 128 short) (ap framed (byte-back f (gather wordText ws) ∙ ap (before (f % 256)) (bytes-back ws)))
 
 obeyed : (w line : List ℕ) (c : Call) → reply w line ≡ answered (outcome w c) → Answered w c (reply w line)
-obeyed w line c e = record { pool = ap (λ r. r .pool) e; text = ap (λ r. r .text) e ∙ answer-told (outcome w c) }
+obeyed w line c e = record { pool = ap (λ r. r .pool) e; text = ap (λ r. r .text) e ∙ answer-line (outcome w c) }
 
 -- the location is the last word of a placing
 front-take : (q r : List ℕ) → take (length q) (q ++ r) ≡ q
@@ -259,7 +259,7 @@ module _ (w : List ℕ) where
       record {
         done = λ z. ap (λ r. r .pool) e ∙ ap (λ b. cond b (o .after .pool) w) (eq-eqb (o .number) 0 z);
         refused = λ m. ap (λ r. r .pool) e ∙ ap (λ b. cond b (o .after .pool) w) (ne-eqb (o .number) 0 m);
-        text = ap (λ r. r .text) e ∙ answer-told o;
+        text = ap (λ r. r .text) e ∙ answer-line o;
       }
 
   odd : (line : List ℕ) → length line % 2 ≡ 1 → NoFrame w line

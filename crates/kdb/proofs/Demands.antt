@@ -4,10 +4,10 @@ use mathlib.Core.Bool.{Bool, true, false, _&&_, not, cond}
 use mathlib.Core.List.{List, [], _∷_, _++_, map}
 use mathlib.Core.Option.{Option, none, some}
 use mathlib.Core.Path.{_≡_, refl, sym, ap, _∙_, subst}
-use Prim.Native.Nat.{ℕ, zero, suc, _+_, _≤_}
+use Prim.Native.Nat.{ℕ, zero, suc, _+_, _-_, _≤_}
 use native.Mathlib.Omega.{arith}
 use lib.Dec.{T, eqb, eqb→eq, T-not}
-use lib.ListN.{length, getD}
+use lib.ListN.{length, take, getD}
 use mathlib.Core.Logic.{_↔_}
 use Rattle.kdb.specs.Lists.{bit, tally, same, many}
 use Rattle.kdb.specs.Box.{Key, whole, within}
@@ -16,22 +16,22 @@ use Rattle.kdb.specs.Steps.{removed}
 use Rattle.kdb.specs.Shape.{WellFormed}
 use Rattle.kdb.specs.Pool.{domains, levelsAt, pagesIn, goodLength, goodHeader, Sound, ownRegion}
 use Rattle.kdb.specs.Print.{printed, stateOf, sound}
-use Rattle.kdb.specs.Walk.{Spot, Tour, End, rootless, bad, absent, here, Search, findWalk, listWalk}
-use Rattle.kdb.specs.Bad.{listCount}
-use Rattle.kdb.specs.Calls.{L, Call, format, check, place, remove, find, list, Outcome, goodDomains, finite, present, lent, placing, removing, finding, listing, stepped, outcome, windowOf, walkOf, begins, Promise}
+use Rattle.kdb.specs.Walk.{Spot, End, rootless, bad, absent, here, Search, findWalk, listWalk}
+use Rattle.kdb.specs.Bad.{upToBad, findTrail, listTrail}
+use Rattle.kdb.specs.Calls.{L, Call, format, check, place, remove, find, list, Outcome, goodDomains, finite, present, lent, placing, removing, finding, stepped, outcome, windowOf, walkOf, begins, Promise}
 use Rattle.kdb.specs.History.{answerOf, change, changed, live, Keeps, over, next}
-use Rattle.kdb.specs.Demands.{SameRecords, keyed, ListsExactly, FindsExactly, Demand2, ByTheSteps, goodWindow, Shares, Demand3, Bounded}
+use Rattle.kdb.specs.Demands.{SameRecords, keyed, ListsExactly, FindsExactly, Moves, ByTheSteps, Built, unbuilt, onto, Demand2, goodWindow, Shares, Demand3, Bounded}
 use Rattle.kdb.proofs.Walk.{walk-bound, walk-pages, walk-silent, list-returns, find-returns}
 use Rattle.kdb.proofs.Lists.{and-l, and-r, and-i, bool, tally-append, to-bit, no-bit, same-refl, In, is-true}
 use Rattle.kdb.proofs.Stands.{Stands}
 use Rattle.kdb.proofs.Views.{finite-whole}
 use Rattle.kdb.proofs.Print.{read-state}
-use Rattle.kdb.proofs.Pool.{print-sound, sound-iff, Sound-stands}
-use Rattle.kdb.proofs.Format.{formatted-printed, none-formed}
+use Rattle.kdb.proofs.Pool.{length-iff, print-sound, sound-iff, Sound-stands}
+use Rattle.kdb.proofs.Format.{formatted-printed, none-formed, formatted-is}
 use Rattle.kdb.proofs.Grow.{roomy-32, placed-formed, removed-formed, key-once, Placing, Placed}
 use Rattle.kdb.proofs.Reading.{Answers, find-rootless, find-answers, list-reads, list-once, list-count, find-reads}
 use Rattle.kdb.proofs.Windows.{good-meets, point-good, point-reads, point-path}
-use Rattle.kdb.proofs.Bad.{find-levels, list-complete}
+use Rattle.kdb.proofs.Bad.{find-levels, find-trail, list-bound}
 use Rattle.kdb.proofs.Calls.{done, goes-on, refusal-keeps, check-still, find-still, list-still}
 use Rattle.kdb.proofs.History.{without-tally, changed-same}
 use Rattle.kdb.proofs.Answers.{list-begins, find-begins, list-answers, find-finds}
@@ -233,12 +233,37 @@ keeps-after (next {w} {v} {c} {cs} {o} {os} p k) rs s e =
     (a .sound, λ g. a .same g ∙ changed-same (outcome w c .number) c (recordsOf (stateOf L w)) rs once e g) in
     keeps-after k (changed (o .number) c rs) (r .0) (r .1)
 
--- a sound pool that holds the records rs, by counts
-demand2-of : (v : List ℕ) (rs : List Rec) → Sound L v × SameRecords (recordsOf (stateOf L v)) rs → Demand2 v rs
-demand2-of v rs r =
+-- the steps are Robinson's, for any outcome that keeps its promise
+by-the-steps-of : (w : List ℕ) (c : Call) → ByTheSteps w c (outcome w c)
+by-the-steps-of w c = record { done = moves c; refused = refusal-keeps w c .kept }
+  where
+    moves : (c : Call) → outcome w c .number ≡ 0 → Moves w c (outcome w c .after .pool)
+    moves (format k) z = (formatted-is w k z, format-state w k z .1)
+    moves check z = check-still w .still
+    moves (place work p l) z =
+        let h = place-done w work p l z in
+        (h .state, h .is, h .pool, ap (stateOf L) (h .pool) ∙ read-state L (domains w) (pagesIn L w) (h .state) big (h .placed .formed))
+    moves (remove p) z =
+        let h = remove-steps w p z in
+        let st = Sound-stands L w (h .0 .well) big in
+        (h .2, ap (stateOf L) (h .2) ∙ read-state L (domains w) (pagesIn L w) (removed (stateOf L w) p) big (removed-formed L (domains w) (pagesIn L w) (stateOf L w) p (st .formed) .formed))
+    moves (find p) z = find-still w p .still
+    moves (list v a) z = list-still w v a .still
+
+pub by-the-steps : (w : List ℕ) (c : Call) (o : Outcome) → Promise w c o → ByTheSteps w c o
+by-the-steps w c o p = subst (ByTheSteps w c) (sym (p .kept)) (by-the-steps-of w c)
+
+built-of : {w v : List ℕ} {cs : List Call} {os : List Outcome} → Keeps w cs os v → Built w cs os v
+built-of over = unbuilt
+built-of (next {w} {v} {c} {cs} {o} {os} p k) = onto (by-the-steps w c o p) (built-of k)
+
+-- a pool that calls have built, sound and with the records rs, by counts
+demand2-of : (w : List ℕ) (cs : List Call) (os : List Outcome) (v : List ℕ) (rs : List Rec) → Built w cs os v → Sound L v × SameRecords (recordsOf (stateOf L v)) rs → Demand2 w cs os v rs
+demand2-of w cs os v rs b r =
     let once : (p : Key) → tally (keyed p) rs ≤ 1 =
     λ p. omega (arith, r .1 (keyed p), key-once L (domains v) (pagesIn L v) (stateOf L v) p (Sound-stands L v (r .0) big .formed)) in
     record {
+      built = b;
       sound = r .0;
       contents = r .1;
       once = once;
@@ -247,30 +272,17 @@ demand2-of v rs r =
     }
 
 -- Demand 2, from any sound pool, of any code whose calls keep their promises
-pub demand2 : (w v : List ℕ) (cs : List Call) (os : List Outcome) → Sound L w → Keeps w cs os v → Demand2 v (live (recordsOf (stateOf L w)) cs (map answerOf os))
-demand2 w v cs os s k = demand2-of v (live (recordsOf (stateOf L w)) cs (map answerOf os)) (keeps-after k (recordsOf (stateOf L w)) s (λ g. refl))
+pub demand2 : (w v : List ℕ) (cs : List Call) (os : List Outcome) → Sound L w → Keeps w cs os v → Demand2 w cs os v (live (recordsOf (stateOf L w)) cs (map answerOf os))
+demand2 w v cs os s k =
+    demand2-of w cs os v (live (recordsOf (stateOf L w)) cs (map answerOf os)) (built-of k) (keeps-after k (recordsOf (stateOf L w)) s (λ g. refl))
 
 -- from an accepted format, whatever the pool held before it
 pub demand2-format : (w v : List ℕ) (k : ℕ) (o : Outcome) (cs : List Call) (os : List Outcome) → Promise w (format k) o → o .number ≡ 0 → Keeps (o .after .pool) cs os v
-    → Demand2 v (live [] cs (map answerOf os))
+    → Demand2 w (format k ∷ cs) (o ∷ os) v (live [] cs (map answerOf os))
 demand2-format w v k o cs os p z q =
     let f = format-after w k (ap (λ x. x .number) (sym (p .kept)) ∙ z) in
     let r = subst (λ x. Sound L (x .after .pool) × SameRecords (recordsOf (stateOf L (x .after .pool))) []) (sym (p .kept)) f in
-    demand2-of v (live [] cs (map answerOf os)) (keeps-after q [] (r .0) (r .1))
-
--- the steps are Robinson's
-pub by-the-steps : (w : List ℕ) → ByTheSteps w
-by-the-steps w =
-    record {
-      formats = λ k z. format-state w k z .1;
-      places = λ work p l z.
-          let h = place-done w work p l z in
-          (h .state, h .is, h .pool, ap (stateOf L) (h .pool) ∙ read-state L (domains w) (pagesIn L w) (h .state) big (h .placed .formed));
-      removes = λ p z.
-          let h = remove-steps w p z in
-          let st = Sound-stands L w (h .0 .well) big in
-          (h .2, ap (stateOf L) (h .2) ∙ read-state L (domains w) (pagesIn L w) (removed (stateOf L w) p) big (removed-formed L (domains w) (pagesIn L w) (stateOf L w) p (st .formed) .formed));
-    }
+    demand2-of w (format k ∷ cs) (o ∷ os) v (live [] cs (map answerOf os)) (built-of (next p q)) (keeps-after q [] (r .0) (r .1))
 
 -- Demand 3, on a sound pool
 module _ (w : List ℕ) (s : Sound L w) where
@@ -320,18 +332,17 @@ find-levelled w p h n =
     go : (g : Search) → g .end ≡ bad → finding g (lent w (find p)) .number ≡ 6
     go g e = rw e
 
-list-whole : (w v slots : List ℕ) → outcome w (list v slots) .number ≡ 0 → length (walkOf w (list v slots)) ≡ listCount L w (windowOf (domains w) v)
-list-whole w v slots z =
-    let d = done w (list v slots) z in
-    ap (λ b. length (cond b (listWalk L w (windowOf (domains w) v) .read) [])) (is-true (begins w (list v slots)) (d .0))
-    ∙ list-complete L w (omega arith) (windowOf (domains w) v) (go (listWalk L w (windowOf (domains w) v)) (sym (ap (λ o. o .number) (d .1)) ∙ z))
-  where
-    go : (t : Tour) → listing t w slots .number ≡ 0 → t .bad ≡ false
-    go t z = by (t .bad) z
-      where
-        by : (m : Bool) → listing (record { read = t .read; bad = m; found = t .found }) w slots .number ≡ 0 → m ≡ false
-        by true z = absurd (omega arith)
-        by false z = refl
+-- a call that begins has a good length
+long-one : (w : List ℕ) → T (goodLength L w) → 1 ≤ pagesIn L w
+long-one w t = omega (arith, length-iff L w .0 t)
+
+list-walked : (w v slots : List ℕ) → T (begins w (list v slots)) → walkOf w (list v slots) ≡ take (pagesIn L w - 1) (upToBad L w (listTrail L w (windowOf (domains w) v)))
+list-walked w v slots h =
+    ap (λ b. cond b (listWalk L w (windowOf (domains w) v) .read) []) (is-true (begins w (list v slots)) h)
+    ∙ list-bound L w (omega arith) (long-one w (and-l (goodLength L w) _ h)) (windowOf (domains w) v) .reads
+
+find-walked : (w p : List ℕ) → T (begins w (find p)) → walkOf w (find p) ≡ upToBad L w (findTrail L w p)
+find-walked w p h = ap (λ b. cond b (findWalk L w p .read) []) (is-true (begins w (find p)) h) ∙ find-trail L w (omega arith) p
 
 pub bounded : (w : List ℕ) → Bounded w
 bounded w =
@@ -340,7 +351,8 @@ bounded w =
       pages = walk-pages w;
       silent = walk-silent w;
       levelled = find-levelled w;
-      complete = list-whole w;
+      finds = find-walked w;
+      lists = list-walked w;
       found = λ p z. ap (λ l. getD l 1 0) (find-returns w p z .2);
       listed = λ v slots z. ap (λ l. getD l 1 0) (list-returns w v slots z .1);
     }

@@ -7,7 +7,7 @@ use mathlib.Core.Path.{_≡_, refl, sym, ap, _∙_, subst}
 use Prim.Native.Nat.{ℕ, zero, suc, _-_, _≤_, _<_}
 use native.Mathlib.Omega.{arith}
 use lib.Dec.{T, leb, eqb, leb→le, le→leb, eqb→eq, T-not}
-use lib.ListN.{length, take, getD, replicate, length-append, length-replicate}
+use lib.ListN.{length, take, getD, replicate, length-append}
 use mathlib.Core.Logic.{_↔_}
 use borrow.Author.Tests.{eq-eqb}
 use Rattle.kdb.specs.Lists.{only, every, tally, upFrom, same, lastOr}
@@ -17,15 +17,16 @@ use Rattle.kdb.specs.Pages.{regionsPer, pointsPer, recsIn}
 use Rattle.kdb.specs.Shape.{WellFormed}
 use Rattle.kdb.specs.Pool.{domains, pagesIn, goodLength, goodHeader, GoodLength, GoodHeader, view, Sound}
 use Rattle.kdb.specs.Print.{printed, stateOf, sound}
-use Rattle.kdb.specs.Walk.{Spot, Tour, End, rootless, bad, absent, here, ends, findWalk, listWalk}
-use Rattle.kdb.specs.Calls.{L, Call, format, check, place, remove, find, list, Outcome, Buffers, Test, goodDomains, finite, ordered, windowOf, formatted, present, placing, removing, finding, listing, stepped, outcome, begins, walkOf, unless, judge, _or_, lent, tests, core}
-use Rattle.kdb.specs.Bad.{findStops, listStops}
-use Rattle.kdb.specs.Demands.{keyed, goodPoint, fitting, endsOf, headed, Headed, Taken, New, lastRecords, Demand1, Formatted, SameSize, Leaves}
+use Rattle.kdb.specs.Walk.{Spot, Tour, End, rootless, bad, absent, here, Search, ends, findWalk, listWalk}
+use Rattle.kdb.specs.Calls.{L, Call, format, check, place, remove, find, list, Outcome, Buffers, Test, goodDomains, finite, ordered, windowOf, present, placing, removing, finding, listing, stepped, outcome, begins, walkOf, unless, judge, _or_, lent, tests, core}
+use Rattle.kdb.specs.Bad.{listTrail, findStops, listStops, listRecords}
+use Rattle.kdb.specs.Demands.{keyed, goodPoint, fitting, endsOf, headed, Headed, Taken, New, lastRecords, slotted, Demand1, SameSize, Leaves}
 use Rattle.kdb.proofs.Lists.{and-l, and-r, and-i, same-refl, In, is-true, of-true, tally-imp, length-upFrom}
 use Rattle.kdb.proofs.Stands.{Stands}
 use Rattle.kdb.proofs.Pool.{length-iff, header-iff, sound-iff, Sound-stands}
 use Rattle.kdb.proofs.Print.{print-length, print-word}
-use Rattle.kdb.proofs.Bad.{find-six, find-eight, find-done, find-located, list-six, list-done}
+use Rattle.kdb.proofs.Format.{formatted-is}
+use Rattle.kdb.proofs.Bad.{find-six, find-eight, find-done, find-located, list-six, list-done, list-told}
 use Rattle.kdb.proofs.Grow.{roomy-32, removed-formed, key-once, Placing, claims, placed-none-iff}
 use Rattle.kdb.proofs.Wanting.{ample, wanting}
 use Rattle.kdb.proofs.Reading.{Answers, find-rootless, find-answers}
@@ -376,15 +377,69 @@ module _ (w : List ℕ) where
       ∙ subst (λ l. finding (findWalk L w p) (lent w (find p)) .values ≡ map (λ r. r .loc) (take 1 (only (keyed p) (recsIn (view L w (lastOr 0 l))))) ++ (length l ∷ []))
       (find-walked p (d .0)) (find-located w p (lent w (find p)) (sym (ap (λ o. o .number) (d .1)) ∙ z))
 
+  good-pages : {c : Call} → Taken w c → 1 ≤ pagesIn L w
+  good-pages h = omega (arith, h .headed .long .least)
+
   six-list : (v answer : List ℕ) → Taken w (list v answer) → T (ordered (windowOf (domains w) v))
       → (outcome w (list v answer) .number ≡ 6) ↔ T (listStops L w (windowOf (domains w) v))
   six-list v answer h o =
-      subst (λ x. (x .number ≡ 6) ↔ T (listStops L w (windowOf (domains w) v))) (sym (goes-on w (list v answer) (list-taken v answer h o))) (list-six w (windowOf (domains w) v) answer)
+      subst (λ x. (x .number ≡ 6) ↔ T (listStops L w (windowOf (domains w) v))) (sym (goes-on w (list v answer) (list-taken v answer h o))) (list-six w (good-pages h) (windowOf (domains w) v) answer)
 
   done-list : (v answer : List ℕ) → Taken w (list v answer) → T (ordered (windowOf (domains w) v))
       → (outcome w (list v answer) .number ≡ 0) ↔ T (not (listStops L w (windowOf (domains w) v)))
   done-list v answer h o =
-      subst (λ x. (x .number ≡ 0) ↔ T (not (listStops L w (windowOf (domains w) v)))) (sym (goes-on w (list v answer) (list-taken v answer h o))) (list-done w (windowOf (domains w) v) answer)
+      subst (λ x. (x .number ≡ 0) ↔ T (not (listStops L w (windowOf (domains w) v)))) (sym (goes-on w (list v answer) (list-taken v answer h o))) (list-done w (good-pages h) (windowOf (domains w) v) answer)
+
+  listed : (v answer : List ℕ) → outcome w (list v answer) .number ≡ 0
+      → (outcome w (list v answer) .values ≡ length (listRecords L w (windowOf (domains w) v)) ∷ length (listTrail L w (windowOf (domains w) v)) ∷ [])
+      × (outcome w (list v answer) .after .answer ≡ slotted answer (map (λ r. r .loc) (listRecords L w (windowOf (domains w) v))))
+  listed v answer z =
+      let d = done w (list v answer) z in
+      let n : 1 ≤ pagesIn L w = omega (arith, length-iff L w .0 (and-l (goodLength L w) _ (d .0))) in
+      let t = list-told w n (windowOf (domains w) v) answer (sym (ap (λ o. o .number) (d .1)) ∙ z) in
+      (ap (λ o. o .values) (d .1) ∙ t .0, ap (λ o. o .after .answer) (d .1) ∙ t .1)
+
+-- a refusal returns its number and nothing else
+record Alone (o : Outcome) : Type 0 where
+  is : (o .number ≡ 0 → ⊥) → o .values ≡ []
+
+finding-alone : (g : Search) (b : Buffers) → Alone (finding g b)
+finding-alone g b = go (g .end)
+  where
+    go : (n : End) → Alone (finding (ends (g .read) n) b)
+    go rootless = record { is = λ h. refl }
+    go bad = record { is = λ h. refl }
+    go (absent j) = record { is = λ h. refl }
+    go (here s) = record { is = λ h. absurd (h refl) }
+
+listing-alone : (t : Tour) (w a : List ℕ) → Alone (listing t w a)
+listing-alone t w a = go (t .bad)
+  where
+    go : (m : Bool) → Alone (listing (record { read = t .read; bad = m; found = t .found }) w a)
+    go true = record { is = λ h. refl }
+    go false = record { is = λ h. absurd (h refl) }
+
+core-alone : (w : List ℕ) (c : Call) → Alone (core w c)
+core-alone w (format k) = record { is = λ h. absurd (h refl) }
+core-alone w check = record { is = λ h. absurd (h refl) }
+core-alone w (place work p l) = go (stepped w (record { key = p; loc = l }))
+  where
+    go : (s : Option State) → Alone (placing s w)
+    go none = record { is = λ h. refl }
+    go (some s) = record { is = λ h. absurd (h refl) }
+core-alone w (remove p) = go (findWalk L w p .end)
+  where
+    go : (e : End) → Alone (removing e w p)
+    go rootless = record { is = λ h. refl }
+    go bad = record { is = λ h. refl }
+    go (absent j) = record { is = λ h. refl }
+    go (here s) = record { is = λ h. absurd (h refl) }
+core-alone w (find p) = finding-alone (findWalk L w p) (lent w (find p))
+core-alone w (list v a) = listing-alone (listWalk L w (windowOf (domains w) v)) w a
+
+alone : (w : List ℕ) (c : Call) → (outcome w c .number ≡ 0 → ⊥) → outcome w c .values ≡ []
+unfolding outcome
+alone w c = judge-both Alone (tests w c) (lent w c) (core w c) (λ n. record { is = λ h. refl }) (core-alone w c) .is
 
 -- not the one exactly if not the other
 not-alike : {A B C : Type 0} → B ↔ C → A ↔ (B → ⊥) → A ↔ (C → ⊥)
@@ -432,25 +487,9 @@ demand1 w =
       located = located w;
       sixList = six-list w;
       lists = done-list w;
+      listed = listed w;
+      alone = alone w;
     }
-
--- a formatted pool, word by word
-no-words : (n i : ℕ) → _≡_ {A = ℕ} (getD (replicate n 0) i 0) 0
-no-words zero i = refl
-no-words (suc n) zero = refl
-no-words (suc n) (suc i) = no-words n i
-
-formatted-is : (w : List ℕ) (k : ℕ) → outcome w (format k) .number ≡ 0 → Formatted w k (outcome w (format k) .after .pool)
-formatted-is w k z =
-    let d = done w (format k) z in
-    let g = length-iff L w .0 (and-l (goodLength L w) _ (d .0)) in
-    subst (Formatted w k) (sym (ap (λ o. o .after .pool) (d .1)))
-    (record { long = omega (arith, length-replicate {A = ℕ} (length w - 2) 0, g .long, g .least); domains = refl; pages = sym (g .long); zeros = later })
-  where
-    later : (i : ℕ) → 2 ≤ i → getD (formatted w k) i 0 ≡ 0
-    later zero h = absurd (omega arith)
-    later (suc zero) h = absurd (omega arith)
-    later (suc (suc i)) h = no-words (length w - 2) i
 
 -- the size after a call
 kept-size : (w v : List ℕ) → v ≡ w → SameSize w v

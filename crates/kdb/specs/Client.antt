@@ -1,5 +1,5 @@
 -- The frame program from the client's side: document 01, "The frame program". Frames.antt reads lines; here they are written: the line that
--- asks for each call, what is answered, and the lines that are no frame.
+-- asks for each call, what is answered, the lines that are no frame, and how one line follows another.
 use mathlib.Core.Bool.{Bool, false, _||_, not, cond}
 use mathlib.Core.List.{List, [], _∷_, _++_, map}
 use mathlib.Core.Path.{_≡_}
@@ -26,20 +26,20 @@ abbrev pub Word : ℕ → Type 0
 Word v = v < 4294967296
 
 -- the answer: the number in 2 digits, each value in 8, then the locations that a list's slots took
-abbrev pub told : Outcome → List ℕ
-told o =
+abbrev pub answerLine : Outcome → List ℕ
+answerLine o =
     byteText (o .number) ++ (gather wordText (o .values) ++ (gather wordText (take (getD (o .values) 0 0) (o .after .answer)) ++ (10 ∷ [])))
 
 -- the call is made, its answer written, and its pool left
 pub record Answered (w : List ℕ) (c : Call) (r : Reply) : Type 0 where
   pub pool : r .pool ≡ outcome w c .after .pool
-  pub text : r .text ≡ told (outcome w c)
+  pub text : r .text ≡ answerLine (outcome w c)
 
 -- n pages of zeros are formatted; a refused format keeps the earlier pool
 pub record Renewed (w : List ℕ) (k n : ℕ) (r : Reply) : Type 0 where
   pub done : outcome (replicate (L * n) 0) (format k) .number ≡ 0 → r .pool ≡ outcome (replicate (L * n) 0) (format k) .after .pool
   pub refused : (outcome (replicate (L * n) 0) (format k) .number ≡ 0 → ⊥) → r .pool ≡ w
-  pub text : r .text ≡ told (outcome (replicate (L * n) 0) (format k))
+  pub text : r .text ≡ answerLine (outcome (replicate (L * n) 0) (format k))
 
 -- FF, and nothing changes
 abbrev pub NoFrame : List ℕ → List ℕ → Type 0

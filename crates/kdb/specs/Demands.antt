@@ -1,6 +1,6 @@
 -- The three demands as statements, each with a field for each thing it says. `outcome` in Calls.antt is a function of every input and fixes
--- every word; here stands what its numbers, its buffers and its walks mean, in document 01's words. Proofs: Refusals (demand 1), Demands
--- (2 and 3) and Local in proofs/.
+-- every word; here stands what its numbers, its buffers and its walks mean, in document 01's words. Proofs, in proofs/: Refusals (demand 1,
+-- over Bad), Demands (2 and 3), Ranks (where pages are cut) and Local.
 use mathlib.Core.Bool.{Bool, true, false, _&&_, not}
 use mathlib.Core.List.{List, [], _∷_, _++_, map}
 use mathlib.Core.Logic.{_↔_}
@@ -18,7 +18,7 @@ use Rattle.kdb.specs.Pages.{page, regionsPer, pointsPer, recsIn}
 use Rattle.kdb.specs.Pool.{domains, levelsAt, pagesIn, GoodLength, GoodHeader, view, numbers, Sound, ownRegion}
 use Rattle.kdb.specs.Print.{printed, stateOf}
 use Rattle.kdb.specs.Walk.{listWalk}
-use Rattle.kdb.specs.Bad.{findStops, listStops, listCount}
+use Rattle.kdb.specs.Bad.{upToBad, findTrail, listTrail, findStops, listStops, listRecords}
 use Rattle.kdb.specs.Calls.{L, Call, format, check, place, remove, find, list, Outcome, finite, windowOf, ordered, stepped, outcome, begins, walkOf, Promise}
 
 -- the same records, each as often: equal counts for every test
@@ -109,6 +109,10 @@ pub record New (w work p : List ℕ) : Type 0 where
 abbrev pub lastRecords : List ℕ → List ℕ → List Rec
 lastRecords w p = recsIn (view L w (lastOr 0 (walkOf w (find p))))
 
+-- slots after a list of these locations: the first take them in order, later ones are unchanged
+abbrev pub slotted : List ℕ → List ℕ → List ℕ
+slotted slots ls = take (length slots) ls ++ drop (length ls) slots
+
 -- Demand 1: each refusal exactly in its case, where no earlier one is given; else the call is done
 pub record Demand1 (w : List ℕ) : Type 0 where
   pub one : (c : Call) → (outcome w c .number ≡ 1) ↔ (GoodLength L w → ⊥)
@@ -143,11 +147,16 @@ pub record Demand1 (w : List ℕ) : Type 0 where
   pub finds : (p : List ℕ) → Taken w (find p) → (outcome w (find p) .number ≡ 0) ↔ (T (not (findStops L w p)) × (1 ≤ tally (keyed p) (lastRecords w p)))
   pub located : (p : List ℕ) → outcome w (find p) .number ≡ 0
       → outcome w (find p) .values ≡ map (λ r. r .loc) (take 1 (only (keyed p) (lastRecords w p))) ++ (length (walkOf w (find p)) ∷ [])
-  -- list's own 6 exactly if its walk meets a bad page or its bound, else 0
+  -- list's own 6 exactly if its walk meets a bad page or its bound; else 0 with the records that the window holds, page by page
   pub sixList : (v answer : List ℕ) → Taken w (list v answer) → T (ordered (windowOf (domains w) v))
       → (outcome w (list v answer) .number ≡ 6) ↔ T (listStops L w (windowOf (domains w) v))
   pub lists : (v answer : List ℕ) → Taken w (list v answer) → T (ordered (windowOf (domains w) v))
       → (outcome w (list v answer) .number ≡ 0) ↔ T (not (listStops L w (windowOf (domains w) v)))
+  pub listed : (v answer : List ℕ) → outcome w (list v answer) .number ≡ 0
+      → (outcome w (list v answer) .values ≡ length (listRecords L w (windowOf (domains w) v)) ∷ length (listTrail L w (windowOf (domains w) v)) ∷ [])
+      × (outcome w (list v answer) .after .answer ≡ slotted answer (map (λ r. r .loc) (listRecords L w (windowOf (domains w) v))))
+  -- a refusal returns its number and nothing else
+  pub alone : (c : Call) → (outcome w c .number ≡ 0 → ⊥) → outcome w c .values ≡ []
 
 -- what an accepted format leaves: K and N in words 0 and 1, and zeros
 pub record Formatted (w : List ℕ) (k : ℕ) (v : List ℕ) : Type 0 where
@@ -162,10 +171,9 @@ pub record SameSize (w v : List ℕ) : Type 0 where
   pub domains : getD v 0 0 ≡ getD w 0 0
   pub pages : getD v 1 0 ≡ getD w 1 0
 
--- What a call leaves in the buffers: an accepted format the empty index of its K and of as many pages as the pool has, which other calls keep
--- so; the pool is unchanged after every refusal; after 0 and 9 place's work buffer is the pool before the
--- call, after other refusals it is unchanged; where list's walk meets a bad page every slot is 0, after other refusals the slots are
--- unchanged
+-- What a call leaves in the buffers: an accepted format the empty index of its K and of as many pages as the pool has, and other calls keep
+-- K, N and length; the pool is unchanged after every refusal; after 0 and 9 place's work buffer is the pool before the call, after other
+-- refusals it is unchanged; where list's walk meets a bad page every slot is 0, after other refusals the slots are unchanged
 pub record Leaves (w : List ℕ) : Type 0 where
   pub formats : (k : ℕ) → outcome w (format k) .number ≡ 0 → Formatted w k (outcome w (format k) .after .pool)
   pub sizes : (c : Call) → T (headed c) → SameSize w (outcome w c .after .pool)
@@ -178,26 +186,36 @@ pub record Leaves (w : List ℕ) : Type 0 where
   pub bad : (v answer : List ℕ) → T (begins w (list v answer)) → (outcome w (list v answer) .number ≡ 0 → ⊥)
       → outcome w (list v answer) .after .answer ≡ replicate (length answer) 0
 
--- Demand 2: v, the pool after any calls, is a K-D-B-tree by Robinson's section 2; rs, the records live by the calls and what they answered,
--- are those in it, each once; and a list or a find that keeps its promise tells exactly them
-pub record Demand2 (v : List ℕ) (rs : List Rec) : Type 0 where
+-- what an accepted call makes of pool w: a format leaves an empty index, place and remove take the state to that of Robinson's step and the
+-- pool to its printed form, the others change nothing
+abbrev pub Moves : List ℕ → Call → List ℕ → Type 0
+Moves w (format k) v = Formatted w k v × (stateOf L v ≡ none)
+Moves w check v = v ≡ w
+Moves w (place work p l) v =
+    (s : State) × (stepped w (record { key = p; loc = l }) ≡ some s) × (v ≡ printed L (domains w) (pagesIn L w) s) × (stateOf L v ≡ s)
+Moves w (remove p) v = (v ≡ printed L (domains w) (pagesIn L w) (removed (stateOf L w) p)) × (stateOf L v ≡ removed (stateOf L w) p)
+Moves w (find p) v = v ≡ w
+Moves w (list u answer) v = v ≡ w
+
+pub record ByTheSteps (w : List ℕ) (c : Call) (o : Outcome) : Type 0 where
+  pub done : o .number ≡ 0 → Moves w c (o .after .pool)
+  pub refused : (o .number ≡ 0 → ⊥) → o .after .pool ≡ w
+
+-- the pool before, the calls, their outcomes, the pool after: each call is by the steps
+pub data Built : List ℕ → List Call → List Outcome → List ℕ → Type 0 where
+  unbuilt : {w : List ℕ} → Built w [] [] w
+  onto : {w v : List ℕ} {c : Call} {cs : List Call} {o : Outcome} {os : List Outcome} → ByTheSteps w c o → Built (o .after .pool) cs os v → Built w (c ∷ cs) (o ∷ os) v
+
+-- Demand 2, of calls cs on pool w with outcomes os that leave pool v: it is built by Robinson's steps and is a K-D-B-tree by his section 2;
+-- rs, the records live by the calls and what they answered, are those in it, each once; and a list or a find that keeps its promise tells
+-- exactly them
+pub record Demand2 (w : List ℕ) (cs : List Call) (os : List Outcome) (v : List ℕ) (rs : List Rec) : Type 0 where
+  pub built : Built w cs os v
   pub sound : Sound L v
   pub contents : SameRecords (recordsOf (stateOf L v)) rs
   pub once : (p : Key) → tally (keyed p) rs ≤ 1
   pub lists : (win slots : List ℕ) (o : Outcome) → T (goodWindow (domains v) win) → Promise v (list win slots) o → ListsExactly v rs win slots o
   pub finds : (p : List ℕ) (o : Outcome) → T (goodPoint (domains v) p) → Promise v (find p) o → FindsExactly rs p o
-
--- the tree is built by Robinson's steps: a format leaves no tree, and an accepted place or remove takes the state to the step's state and
--- the pool to its printed form
-pub record ByTheSteps (w : List ℕ) : Type 0 where
-  pub formats : (k : ℕ) → outcome w (format k) .number ≡ 0 → stateOf L (outcome w (format k) .after .pool) ≡ none
-  pub places : (work p : List ℕ) (l : ℕ) → outcome w (place work p l) .number ≡ 0
-      → (s : State) × (stepped w (record { key = p; loc = l }) ≡ some s)
-      × (outcome w (place work p l) .after .pool ≡ printed L (domains w) (pagesIn L w) s)
-      × (stateOf L (outcome w (place work p l) .after .pool) ≡ s)
-  pub removes : (p : List ℕ) → outcome w (remove p) .number ≡ 0
-      → (outcome w (remove p) .after .pool ≡ printed L (domains w) (pagesIn L w) (removed (stateOf L w) p))
-      × (stateOf L (outcome w (remove p) .after .pool) ≡ removed (stateOf L w) p)
 
 -- x has rank r among the numbers, counted from 0: no more than r are smaller, and those equal to it fill the place
 pub record Ranks (l : List ℕ) (r x : ℕ) : Type 0 where
@@ -250,14 +268,15 @@ pub record Demand3 (w : List ℕ) : Type 0 where
   pub path : (p slots : List ℕ) → T (goodPoint (domains w) p) → walkOf w (find p) ≡ walkOf w (list (p ++ p) slots)
 
 -- Demand 3, on any words: no walk is longer than N − 1, refused walks included, its numbers are those of pages, a call refused before its
--- walk begins reads nothing, one that is not refused reads a page of each level (find) or every page that it has to (list), and the count
--- returned is the walk's length
+-- walk begins reads nothing, another reads the pages of its trail up to the first bad one, list no more than N − 1; a find that is not
+-- refused reads one page a level, and the count returned is the walk's length
 pub record Bounded (w : List ℕ) : Type 0 where
   pub most : (c : Call) → length (walkOf w c) ≤ pagesIn L w - 1
   pub pages : (c : Call) (j : ℕ) → 1 ≤ many j (walkOf w c) → (1 ≤ j) × (j < pagesIn L w)
   pub silent : (c : Call) → begins w c ≡ false → walkOf w c ≡ []
   pub levelled : (p : List ℕ) → T (begins w (find p)) → (outcome w (find p) .number ≡ 6 → ⊥) → length (walkOf w (find p)) ≡ levelsAt w
-  pub complete : (v slots : List ℕ) → outcome w (list v slots) .number ≡ 0 → length (walkOf w (list v slots)) ≡ listCount L w (windowOf (domains w) v)
+  pub finds : (p : List ℕ) → T (begins w (find p)) → walkOf w (find p) ≡ upToBad L w (findTrail L w p)
+  pub lists : (v slots : List ℕ) → T (begins w (list v slots)) → walkOf w (list v slots) ≡ take (pagesIn L w - 1) (upToBad L w (listTrail L w (windowOf (domains w) v)))
   pub found : (p : List ℕ) → outcome w (find p) .number ≡ 0 → getD (outcome w (find p) .values) 1 0 ≡ length (walkOf w (find p))
   pub listed : (v slots : List ℕ) → outcome w (list v slots) .number ≡ 0 → getD (outcome w (list v slots) .values) 1 0 ≡ length (walkOf w (list v slots))
 
