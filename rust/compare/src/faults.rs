@@ -101,7 +101,7 @@ pub const FAULTS: [(&str, &str); 53] = [
     ("format-514", "format takes 514 pages"),
     (
         "length-16",
-        "the pool's length is taken by its last 16 bits",
+        "the lengths of pool and work buffer are taken by their last 16 bits",
     ),
     ("place-many", "word 4 stays at 1000 records"),
     ("writes-behind", "place writes the word behind the pool"),
@@ -146,15 +146,6 @@ fn refused(number: u32) -> Answer {
     }
 }
 
-/// The words that are taken for the pool.
-fn taken(broken: &Broken, pool: &[u32]) -> usize {
-    if broken.is("length-16") {
-        pool.len() % 65_536
-    } else {
-        pool.len()
-    }
-}
-
 fn good_length(pool: &[u32]) -> bool {
     pool.len().is_multiple_of(PAGE) && (64..=16384).contains(&pool.len())
 }
@@ -162,6 +153,15 @@ fn good_length(pool: &[u32]) -> bool {
 impl Broken {
     fn is(&self, name: &str) -> bool {
         self.0 == name
+    }
+
+    /// The words of a pool or work buffer that are taken for it.
+    fn taken(&self, buffer: &[u32]) -> usize {
+        if self.is("length-16") {
+            buffer.len() % 65_536
+        } else {
+            buffer.len()
+        }
     }
 
     /// A copy of the pool in which what the fault does not look at is as it should be.
@@ -451,7 +451,7 @@ impl Index for Broken {
             pool[..2].copy_from_slice(&[k, 514]);
             return refused(0);
         }
-        let taken = taken(self, pool);
+        let taken = self.taken(pool);
         let pool = &mut pool[..taken];
         let before = pool.to_vec();
         let answer = Second.format(pool, k);
@@ -463,7 +463,7 @@ impl Index for Broken {
     }
 
     fn check(&self, pool: &[u32]) -> Answer {
-        let pool = &pool[..taken(self, pool)];
+        let pool = &pool[..self.taken(pool)];
         let answer = Second.check(&self.blind(pool));
         if self.is("check-pinwheel") && answer.number == 0 && has_pinwheel(pool) {
             return refused(6);
@@ -472,6 +472,8 @@ impl Index for Broken {
     }
 
     fn place(&self, pool: &mut [u32], work: &mut [u32], point: &[u32], location: u32) -> Answer {
+        let taken = (self.taken(pool), self.taken(work));
+        let (pool, work) = (&mut pool[..taken.0], &mut work[..taken.1]);
         let good = header(pool).is_ok();
         if self.is("order-4-3") && good && point.contains(&u32::MAX) {
             return refused(4);
@@ -488,6 +490,8 @@ impl Index for Broken {
     }
 
     fn remove(&self, pool: &mut [u32], point: &[u32]) -> Answer {
+        let taken = self.taken(pool);
+        let pool = &mut pool[..taken];
         let before = pool.to_vec();
         let answer = Second.remove(pool, point);
         if answer.number != 0 {
@@ -523,6 +527,7 @@ impl Index for Broken {
     }
 
     fn find(&self, pool: &[u32], point: &[u32]) -> Answer {
+        let pool = &pool[..self.taken(pool)];
         let mut answer = if self.is("header-tail") {
             Second.find(&self.blind(pool), point)
         } else {
@@ -558,6 +563,7 @@ impl Index for Broken {
     }
 
     fn list(&self, pool: &[u32], window: &[u32], answer: &mut [u32]) -> Answer {
+        let pool = &pool[..self.taken(pool)];
         let before = answer.to_vec();
         let listed = if self.is("header-tail") {
             Second.list(&self.blind(pool), window, answer)

@@ -37,14 +37,14 @@ fn fill(k: usize, pages: usize, set: u64, order: &str) -> usize {
     }
     let centres: Vec<u32> = (0..20 * k).map(|_| draw.key() / 2).collect();
     let (mut pool, mut seen, mut rising) = (Pool::new(k, pages), HashSet::new(), 0);
-    for i in 0.. {
+    for along in line.iter().cycle() {
         rising += 1 + draw.below(2000) as u32;
         let centre = draw.below(20) as usize;
         let key = |d: usize| match order {
             "first" if d == 0 => rising,
             "random" | "first" => draw.key(),
             "all" => rising + d as u32,
-            "shuffled" => line[i] + d as u32,
+            "shuffled" => along + d as u32,
             _ => centres[centre * k + d] + draw.below(1000) as u32,
         };
         let keys: Vec<u32> = (0..k).map(key).collect();
