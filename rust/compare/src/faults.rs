@@ -310,7 +310,41 @@ impl Broken {
         placed.map_or_else(Vec::new, |(_, claims)| claims)
     }
 
-    /// What is broken after a placing that was done or found no page.
+    /// A free page is left as if it had been claimed, if enough of them are free.
+    fn leave_claimed(&self, pool: &mut [u32]) {
+        let free: Vec<usize> = (1..pool.len() / PAGE)
+            .filter(|number| pool[PAGE * number] == 0)
+            .collect();
+        let least = if self.is("place-half-way-2") { 2 } else { 1 };
+        if free.len() >= least {
+            pool[PAGE * free[0]] = 2;
+        }
+    }
+
+    /// The claimed pages get other numbers: the first two each other's, or all of them the highest free ones.
+    fn claim_others(&self, claimed: &[u32], pool: &mut [u32], before: &[u32]) {
+        let Ok(mut tree) = second::read(pool) else {
+            return;
+        };
+        let mut to = claimed.to_vec();
+        if self.is("place-claims") {
+            if to.len() > 1 {
+                to.swap(0, 1);
+            }
+        } else {
+            let mut free = second::read(before).map_or(Vec::new(), |t| t.free_pages());
+            free.reverse();
+            free.truncate(to.len());
+            to = free;
+        }
+        let map: Vec<(u32, u32)> = claimed.iter().copied().zip(to).collect();
+        if let Some(root) = &mut tree.root {
+            renumber(root, &map);
+        }
+        pool.copy_from_slice(&tree.print());
+    }
+
+    /// What is broken after a placing.
     fn after_place(
         &self,
         answer: Answer,
@@ -319,17 +353,10 @@ impl Broken {
         point: &[u32],
     ) -> Answer {
         let page = |number: u32| PAGE * number as usize;
-        if answer.number == 9 {
-            let free: Vec<usize> = (1..pool.len() / PAGE)
-                .filter(|number| pool[PAGE * number] == 0)
-                .collect();
-            let least = if self.is("place-half-way-2") { 2 } else { 1 };
-            if self.0.starts_with("place-half-way") && free.len() >= least {
-                pool[PAGE * free[0]] = 2;
-            }
-            return answer;
-        }
         if answer.number != 0 {
+            if answer.number == 9 && self.0.starts_with("place-half-way") {
+                self.leave_claimed(pool);
+            }
             if self.is("place-work-7") && answer.number == 7 {
                 work.copy_from_slice(pool);
             }
@@ -358,26 +385,8 @@ impl Broken {
                 }
             }
             "place-claims" | "place-highest" => {
-                let Ok(mut tree) = second::read(pool) else {
-                    return answer;
-                };
-                let mut to: Vec<u32> = claims.iter().map(|claim| claim.0).collect();
-                if self.is("place-claims") {
-                    if to.len() > 1 {
-                        to.swap(0, 1);
-                    }
-                } else {
-                    let mut free = second::read(work).map_or(Vec::new(), |t| t.free_pages());
-                    free.reverse();
-                    free.truncate(to.len());
-                    to = free;
-                }
-                let from = claims.iter().map(|claim| claim.0);
-                let map: Vec<(u32, u32)> = from.zip(to).collect();
-                if let Some(root) = &mut tree.root {
-                    renumber(root, &map);
-                }
-                pool.copy_from_slice(&tree.print());
+                let claimed: Vec<u32> = claims.iter().map(|claim| claim.0).collect();
+                self.claim_others(&claimed, pool, work);
             }
             "place-early-9" if !claims.is_empty() => {
                 let free = second::read(pool).map_or(0, |tree| tree.free_pages().len());

@@ -158,8 +158,8 @@ impl fmt::Display for Refusal {
             Refusal::PoolLength => "the pool is not 32 x N words, N from 2 to 512",
             Refusal::Domains => "K is not 1 to 4",
             Refusal::BufferLength => {
-                "a point is not K words, a window is not 2 K words, or the work buffer is not as long as the pool"
-            },
+                "the point is not K words, the window not 2K, or work not as long as the pool"
+            }
             Refusal::InfiniteKey => "a key or an end of a window is 4294967295",
             Refusal::WindowOrder => "a lower end of the window is above its upper end",
             Refusal::Unsound => "the pool is not sound",
