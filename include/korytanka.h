@@ -11,11 +11,11 @@
  *   enum { WORDS = 8 * KORYTANKA_PAGE_WORDS };
  *   uint32_t pool[WORDS], work[WORDS], answer[16];
  *   const uint32_t signal[2] = {120000, 195088};
- *   const uint32_t window[4] = {119000, 195000, 121000, 195200};     the lower ends, then the upper ends
+ *   const uint32_t window[4] = {119000, 195000, 121000, 195200}; // the lower ends, then the upper ends
  *
  *   korytanka_format(pool, WORDS, 2);
  *   korytanka_place(pool, WORDS, work, WORDS, signal, 2, 1000);
- *   korytanka_list(pool, WORDS, window, 4, answer, 16);              total 1, and answer[0] is 1000
+ *   korytanka_list(pool, WORDS, window, 4, answer, 16); // total 1, and answer[0] is 1000
  *
  * A pool's life
  *
@@ -33,9 +33,9 @@
  *   1. Buffers that do not overlap. The buffers of one call share no word, unless both are const.
  *   2. True lengths. Behind each pointer are as many words as the length next to it says, aligned as uint32_t, that
  *      may be read and, behind a pointer that is not const, written. With a length of 0 the pointer may be null.
- *   3. Threads. While format, place or remove runs, nothing else reads or writes its pool or its work buffer. check,
- *      find and list only read the pool: any number of them may run on it at once, each list with an answer buffer of
- *      its own. Calls on different pools have nothing to do with each other.
+ *   3. Threads. While a call runs, nothing else writes a buffer that it was lent, and nothing else reads one that it
+ *      may write. The library takes no locks and keeps nothing between calls. check, find and list only read the pool:
+ *      any number of them may run on it at once, each list with an answer buffer of its own.
  *   4. Enough stack. The calls go down the tree by recursion, one step a level. A pool can be made, by hand, with as
  *      many as 511 levels, and an ordinary stack of 1 MB has room to spare for it; one that grew by placing has few.
  *
@@ -58,14 +58,14 @@
  * After 6, not sound
  *
  *   Something else has written to the pool, or it was not formatted, or not with this length. No call mends it: take
- *   a stored copy. If place was the last call that changed the pool, the work buffer is one: it holds the pool before
- *   that place. check is no checksum: a location that was changed, or a key that still lies in its page's region,
- *   leaves a sound pool of other records. Where that matters, keep a checksum with the stored words.
+ *   a stored copy. The work buffer holds the pool as it stood before the last place that was lent it and gave 0 or 9;
+ *   that pool was sound. check is no checksum: a location that was changed, or a key that still lies in its page's
+ *   region, leaves a sound pool of other records. Where that matters, keep a checksum with the stored words.
  *
  * How much fits
  *
  *   Measured, not proved: the records in a pool of 512 pages when place first gave 9, the least and the most of 20
- *   sets of records.
+ *   sets of records. Other sets fall a little outside. rust/second/examples/capacity.rs does the measuring.
  *
  *     K   all keys at random   first key rising   all keys rising
  *     1     4,193 to 4,360          2,870              2,870
@@ -91,7 +91,8 @@ extern "C" {
 /*
  * MAJOR rises with a change that can break a program or a stored pool: a name goes, a call answers another way to what
  * it took before, the words of a pool mean something else. MINOR rises where something is added: a call, a name, or an
- * answer where there was a refusal. A stored pool is read by every later version of the same MAJOR.
+ * answer where there was a refusal. A new refusal number raises MINOR if it is given only by a new call or where a call
+ * refused before, and MAJOR otherwise. A stored pool is read by every later version of the same MAJOR.
  */
 #define KORYTANKA_VERSION_MAJOR 1
 #define KORYTANKA_VERSION_MINOR 0
@@ -187,8 +188,8 @@ typedef struct korytanka_listed {
 uint32_t korytanka_format(uint32_t *pool, size_t words, uint32_t k);
 
 /*
- * Tells whether the pool is sound: every word of it is as a tree of its records leaves it. After 0, find and list
- * never give 6 on this pool, and list finds every record in a window.
+ * Tells whether the pool is sound: it is a tree as docs/FORMAT.md describes it, every word of it. After 0, find and
+ * list never give 6 on this pool, and list finds every record in a window.
  *
  *   1  KORYTANKA_REFUSED_POOL_LENGTH  words is not 32 x N, N from 2 to 512
  *   6  KORYTANKA_REFUSED_UNSOUND      the header is not good, or the pool is not sound

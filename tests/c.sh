@@ -9,5 +9,7 @@ rt staticlib export
 cc -std=c99 -Wall -Wextra -Wpedantic -Werror -fsyntax-only -x c include/korytanka.h
 if command -v c++ >/dev/null 2>&1; then
   c++ -std=c++11 -Wall -Wextra -Wpedantic -Werror -fsyntax-only -x c++ include/korytanka.h
+else
+  echo "no c++: the header is not tried as C++"
 fi
 make --no-print-directory -C examples/c test

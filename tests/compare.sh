@@ -4,7 +4,7 @@
 # `tests/compare.sh --seed 7 --seconds 3600`.
 set -eu
 cd "$(dirname "$0")/.."
-for need in rt cargo; do
+for need in rt cargo cc; do
   command -v "$need" >/dev/null 2>&1 || { echo "missing: $need"; exit 1; }
 done
 rt staticlib export

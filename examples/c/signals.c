@@ -101,5 +101,7 @@ int main(void) {
     printf("check: %" PRIu32 "\n", korytanka_check(pool, WORDS));
     pool[4] += 1;
     printf("check of a spoilt pool: %" PRIu32 "\n", korytanka_check(pool, WORDS));
+    const uint32_t next[K] = {87000, 212050};
+    printf("place in a spoilt pool: %" PRIu32 "\n", korytanka_place(pool, WORDS, work, WORDS, next, K, 1012));
     return 0;
 }

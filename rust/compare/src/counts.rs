@@ -14,6 +14,13 @@ pub struct SpoiltCount {
     pub answering: u64,
 }
 
+/// What is counted, how many were met, how many have to be.
+type Wanted = (String, u64, u64);
+
+fn wanted(what: &str, met: u64, least: u64) -> Wanted {
+    (what.to_string(), met, least)
+}
+
 #[derive(Clone, Default)]
 pub struct Counts {
     /// By call and number.
@@ -36,11 +43,12 @@ pub struct Counts {
     /// Case 11: placings whose forced split left an empty point page, which was then read.
     pub empty_read: u64,
     /// Whole histories on 512 pages, the calls in them, those that went on after their first 9, and the records that
-    /// were placed in these afterwards.
+    /// were placed in these afterwards: in all, and in the one with the fewest.
     pub histories: u64,
     pub in_histories: u64,
     pub went_on: u64,
     pub placed_later: u64,
+    pub least_placed_later: Option<u64>,
     /// Pools of more than 16,384 words; the calls on such, and those of them that answer 1.
     pub long_pools: u64,
     pub long: [u64; 6],
@@ -84,6 +92,8 @@ impl Counts {
         self.in_histories += other.in_histories;
         self.went_on += other.went_on;
         self.placed_later += other.placed_later;
+        let least = [self.least_placed_later, other.least_placed_later];
+        self.least_placed_later = least.into_iter().flatten().min();
         self.sessions += other.sessions;
         self.lines += other.lines;
         self.malformed += other.malformed;
@@ -109,84 +119,77 @@ impl Counts {
         sum
     }
 
-    /// The wanted counts that are always printed: what, how many were met, how many have to be.
-    fn wanted(&self, frames: bool) -> Vec<(String, u64, u64)> {
-        let spoilt = self.spoilt_sum();
-        let mut wanted = vec![
-            ("calls".into(), self.calls(), 1_000_000),
-            ("spoilt pools".into(), spoilt.pools, 100_000),
-            (
-                "unsound pools on which find or list still answers 0 or 8".into(),
-                spoilt.answering,
-                spoilt.pools.div_ceil(3),
-            ),
-            (
-                "spoilt pools that reach list's bound".into(),
-                self.bound,
-                1000,
-            ),
-            ("spoilt pools of 511 levels".into(), self.longest, 100),
-            (
-                "placings that answer 9 after a claim".into(),
-                self.none_free[1..].iter().sum(),
-                1000,
-            ),
-            (
-                "case 11: forced splits that left an empty point page, which was read".into(),
-                self.empty_read,
-                100,
-            ),
-            (
-                "pairs of K and N with sequences".into(),
-                self.sizes.len() as u64,
-                4 * 511,
-            ),
-            (
-                "refusals of remove, find and list, the fields behind the number compared".into(),
-                self.bare(),
-                100_000,
-            ),
-            (
-                "pools of more than 16,384 words".into(),
-                self.long_pools,
-                500,
-            ),
-            (
-                "calls of each kind on such pools, at least".into(),
-                self.long.into_iter().min().unwrap_or(0),
-                500,
-            ),
-            (
-                "whole histories on 512 pages".into(),
-                self.histories,
-                histories().len() as u64,
-            ),
-            (
-                "calls in whole histories".into(),
-                self.in_histories,
-                self.histories * HISTORY,
-            ),
-            (
-                format!("whole histories that went on for {AFTER_9} calls after their first 9"),
-                self.went_on,
-                self.histories,
-            ),
-            (
-                "records placed in them after their first 9".into(),
-                self.placed_later,
-                100 * self.histories,
-            ),
-        ];
+    /// The wanted counts that are always printed.
+    fn wanted(&self, frames: bool) -> Vec<Wanted> {
+        let mut wanted = vec![wanted("calls", self.calls(), 1_000_000)];
+        wanted.extend(self.wanted_of_spoilt());
+        wanted.extend(self.wanted_of_sequences());
+        wanted.extend(self.wanted_of_long());
+        wanted.extend(self.wanted_of_histories());
         if frames {
-            wanted.push(("sessions of frames".into(), self.sessions, 100));
-            wanted.push(("frames".into(), self.lines, 20_000));
-            wanted.push(("malformed lines".into(), self.malformed, 2000));
+            wanted.extend(self.wanted_of_frames());
         }
         wanted
     }
 
+    fn wanted_of_spoilt(&self) -> [Wanted; 4] {
+        let spoilt = self.spoilt_sum();
+        let answering = "unsound pools on which find or list still answers 0 or 8";
+        [
+            wanted("spoilt pools", spoilt.pools, 100_000),
+            wanted(answering, spoilt.answering, spoilt.pools.div_ceil(3)),
+            wanted("spoilt pools that reach list's bound", self.bound, 1000),
+            wanted("spoilt pools of 511 levels", self.longest, 100),
+        ]
+    }
+
+    fn wanted_of_sequences(&self) -> [Wanted; 4] {
+        let claimed = self.none_free[1..].iter().sum();
+        let case_11 = "case 11: forced splits that left an empty point page, which was read";
+        let sizes = self.sizes.len() as u64;
+        let bare = "refusals of remove, find and list, the fields behind the number compared";
+        [
+            wanted("placings that answer 9 after a claim", claimed, 1000),
+            wanted(case_11, self.empty_read, 100),
+            wanted("pairs of K and N with sequences", sizes, 4 * 511),
+            wanted(bare, self.bare(), 100_000),
+        ]
+    }
+
+    fn wanted_of_long(&self) -> [Wanted; 2] {
+        let least = self.long.into_iter().min().unwrap_or(0);
+        [
+            wanted("pools of more than 16,384 words", self.long_pools, 500),
+            wanted("calls of each kind on such pools, at least", least, 500),
+        ]
+    }
+
+    fn wanted_of_histories(&self) -> [Wanted; 5] {
+        let all = histories().len() as u64;
+        let calls = HISTORY * self.histories;
+        let went_on =
+            format!("whole histories that went on for {AFTER_9} calls after their first 9");
+        let later = "records placed in them after their first 9";
+        let least = self.least_placed_later.unwrap_or(0);
+        [
+            wanted("whole histories on 512 pages", self.histories, all),
+            wanted("calls in whole histories", self.in_histories, calls),
+            wanted(&went_on, self.went_on, self.histories),
+            wanted(later, self.placed_later, 100 * self.histories),
+            wanted("the same in each of them, at least", least, 1),
+        ]
+    }
+
+    fn wanted_of_frames(&self) -> [Wanted; 3] {
+        [
+            wanted("sessions of frames", self.sessions, 100),
+            wanted("frames", self.lines, 20_000),
+            wanted("malformed lines", self.malformed, 2000),
+        ]
+    }
+
     /// The wanted counts of the tables: every number of every call, every kind of spoilt pool.
-    fn wanted_in_tables(&self) -> Vec<(String, u64, u64)> {
+    fn wanted_in_tables(&self) -> Vec<Wanted> {
         let mut wanted = Vec::new();
         for (call, numbers) in [
             &[0, 1, 2][..],

@@ -101,7 +101,7 @@ pub const FAULTS: [(&str, &str); 53] = [
     ("format-514", "format takes 514 pages"),
     (
         "length-16",
-        "the pool's length is taken by its last 16 bits",
+        "the lengths of pool and work buffer are taken by their last 16 bits",
     ),
     ("place-many", "word 4 stays at 1000 records"),
     ("writes-behind", "place writes the word behind the pool"),
@@ -146,15 +146,6 @@ fn refused(number: u32) -> Answer {
     }
 }
 
-/// The words that are taken for the pool.
-fn taken(broken: &Broken, pool: &[u32]) -> usize {
-    if broken.is("length-16") {
-        pool.len() % 65_536
-    } else {
-        pool.len()
-    }
-}
-
 fn good_length(pool: &[u32]) -> bool {
     pool.len().is_multiple_of(PAGE) && (64..=16384).contains(&pool.len())
 }
@@ -162,6 +153,15 @@ fn good_length(pool: &[u32]) -> bool {
 impl Broken {
     fn is(&self, name: &str) -> bool {
         self.0 == name
+    }
+
+    /// The words of a pool or work buffer that are taken for it.
+    fn taken(&self, buffer: &[u32]) -> usize {
+        if self.is("length-16") {
+            buffer.len() % 65_536
+        } else {
+            buffer.len()
+        }
     }
 
     /// A copy of the pool in which what the fault does not look at is as it should be.
@@ -310,7 +310,41 @@ impl Broken {
         placed.map_or_else(Vec::new, |(_, claims)| claims)
     }
 
-    /// What is broken after a placing that was done or found no page.
+    /// A free page is left as if it had been claimed, if enough of them are free.
+    fn leave_claimed(&self, pool: &mut [u32]) {
+        let free: Vec<usize> = (1..pool.len() / PAGE)
+            .filter(|number| pool[PAGE * number] == 0)
+            .collect();
+        let least = if self.is("place-half-way-2") { 2 } else { 1 };
+        if free.len() >= least {
+            pool[PAGE * free[0]] = 2;
+        }
+    }
+
+    /// The claimed pages get other numbers: the first two each other's, or all of them the highest free ones.
+    fn claim_others(&self, claimed: &[u32], pool: &mut [u32], before: &[u32]) {
+        let Ok(mut tree) = second::read(pool) else {
+            return;
+        };
+        let mut to = claimed.to_vec();
+        if self.is("place-claims") {
+            if to.len() > 1 {
+                to.swap(0, 1);
+            }
+        } else {
+            let mut free = second::read(before).map_or(Vec::new(), |t| t.free_pages());
+            free.reverse();
+            free.truncate(to.len());
+            to = free;
+        }
+        let map: Vec<(u32, u32)> = claimed.iter().copied().zip(to).collect();
+        if let Some(root) = &mut tree.root {
+            renumber(root, &map);
+        }
+        pool.copy_from_slice(&tree.print());
+    }
+
+    /// What is broken after a placing.
     fn after_place(
         &self,
         answer: Answer,
@@ -319,17 +353,10 @@ impl Broken {
         point: &[u32],
     ) -> Answer {
         let page = |number: u32| PAGE * number as usize;
-        if answer.number == 9 {
-            let free: Vec<usize> = (1..pool.len() / PAGE)
-                .filter(|number| pool[PAGE * number] == 0)
-                .collect();
-            let least = if self.is("place-half-way-2") { 2 } else { 1 };
-            if self.0.starts_with("place-half-way") && free.len() >= least {
-                pool[PAGE * free[0]] = 2;
-            }
-            return answer;
-        }
         if answer.number != 0 {
+            if answer.number == 9 && self.0.starts_with("place-half-way") {
+                self.leave_claimed(pool);
+            }
             if self.is("place-work-7") && answer.number == 7 {
                 work.copy_from_slice(pool);
             }
@@ -358,26 +385,8 @@ impl Broken {
                 }
             }
             "place-claims" | "place-highest" => {
-                let Ok(mut tree) = second::read(pool) else {
-                    return answer;
-                };
-                let mut to: Vec<u32> = claims.iter().map(|claim| claim.0).collect();
-                if self.is("place-claims") {
-                    if to.len() > 1 {
-                        to.swap(0, 1);
-                    }
-                } else {
-                    let mut free = second::read(work).map_or(Vec::new(), |t| t.free_pages());
-                    free.reverse();
-                    free.truncate(to.len());
-                    to = free;
-                }
-                let from = claims.iter().map(|claim| claim.0);
-                let map: Vec<(u32, u32)> = from.zip(to).collect();
-                if let Some(root) = &mut tree.root {
-                    renumber(root, &map);
-                }
-                pool.copy_from_slice(&tree.print());
+                let claimed: Vec<u32> = claims.iter().map(|claim| claim.0).collect();
+                self.claim_others(&claimed, pool, work);
             }
             "place-early-9" if !claims.is_empty() => {
                 let free = second::read(pool).map_or(0, |tree| tree.free_pages().len());
@@ -451,7 +460,7 @@ impl Index for Broken {
             pool[..2].copy_from_slice(&[k, 514]);
             return refused(0);
         }
-        let taken = taken(self, pool);
+        let taken = self.taken(pool);
         let pool = &mut pool[..taken];
         let before = pool.to_vec();
         let answer = Second.format(pool, k);
@@ -463,7 +472,7 @@ impl Index for Broken {
     }
 
     fn check(&self, pool: &[u32]) -> Answer {
-        let pool = &pool[..taken(self, pool)];
+        let pool = &pool[..self.taken(pool)];
         let answer = Second.check(&self.blind(pool));
         if self.is("check-pinwheel") && answer.number == 0 && has_pinwheel(pool) {
             return refused(6);
@@ -472,6 +481,8 @@ impl Index for Broken {
     }
 
     fn place(&self, pool: &mut [u32], work: &mut [u32], point: &[u32], location: u32) -> Answer {
+        let taken = (self.taken(pool), self.taken(work));
+        let (pool, work) = (&mut pool[..taken.0], &mut work[..taken.1]);
         let good = header(pool).is_ok();
         if self.is("order-4-3") && good && point.contains(&u32::MAX) {
             return refused(4);
@@ -488,6 +499,8 @@ impl Index for Broken {
     }
 
     fn remove(&self, pool: &mut [u32], point: &[u32]) -> Answer {
+        let taken = self.taken(pool);
+        let pool = &mut pool[..taken];
         let before = pool.to_vec();
         let answer = Second.remove(pool, point);
         if answer.number != 0 {
@@ -523,6 +536,7 @@ impl Index for Broken {
     }
 
     fn find(&self, pool: &[u32], point: &[u32]) -> Answer {
+        let pool = &pool[..self.taken(pool)];
         let mut answer = if self.is("header-tail") {
             Second.find(&self.blind(pool), point)
         } else {
@@ -558,6 +572,7 @@ impl Index for Broken {
     }
 
     fn list(&self, pool: &[u32], window: &[u32], answer: &mut [u32]) -> Answer {
+        let pool = &pool[..self.taken(pool)];
         let before = answer.to_vec();
         let listed = if self.is("header-tail") {
             Second.list(&self.blind(pool), window, answer)

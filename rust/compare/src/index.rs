@@ -40,7 +40,7 @@ fn answer<T>(outcome: Result<T, u32>, values: impl FnOnce(T) -> [u32; 2]) -> Ans
 
 /// The six calls by way of a crate whose refusals have a `number`.
 macro_rules! index {
-    ($name:ident, $calls:ident) => {
+    ($name:ident, $calls:ident, $list:ident) => {
         impl Index for $name {
             fn format(&self, pool: &mut [u32], k: u32) -> Answer {
                 let outcome = $calls::format(pool, k).map_err(|refusal| refusal.number());
@@ -74,21 +74,32 @@ macro_rules! index {
             }
 
             fn list(&self, pool: &[u32], window: &[u32], slots: &mut [u32]) -> Answer {
-                let outcome = $calls::list(pool, window, slots);
-                answer(outcome.map_err(|refusal| refusal.number()), |listed| {
-                    [listed.total, listed.reads]
-                })
+                answer($list(pool, window, slots), |values| values)
             }
         }
     };
 }
 
-index!(Second, calls);
+fn second_list(pool: &[u32], window: &[u32], slots: &mut [u32]) -> Result<[u32; 2], u32> {
+    let listed = calls::list(pool, window, slots).map_err(|refusal| refusal.number())?;
+    Ok([listed.total, listed.reads])
+}
+
+index!(Second, calls, second_list);
 
 /// The proved library by way of its safe binding.
 pub struct Bound;
 
-index!(Bound, korytanka);
+/// The locations that the binding returns have to be the front of the answer buffer; a panic here counts as a failure.
+fn bound_list(pool: &[u32], window: &[u32], slots: &mut [u32]) -> Result<[u32; 2], u32> {
+    let listed = korytanka::list(pool, window, slots).map_err(|refusal| refusal.number())?;
+    let (values, locations) = ([listed.total, listed.reads], listed.locations.to_vec());
+    let filled = slots.len().min(values[0] as usize);
+    assert_eq!(locations, slots[..filled], "the locations of a list");
+    Ok(values)
+}
+
+index!(Bound, korytanka, bound_list);
 
 /// The proved library: the number and the fields as they come out of it, the fields after a refusal too.
 pub struct Proved;

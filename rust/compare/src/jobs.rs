@@ -45,7 +45,26 @@ pub enum Job {
 pub fn round(seed: u64, round: u64) -> Vec<Job> {
     let mut random = Random::of(seed, round, u64::MAX);
     let mut jobs = vec![Job::Case11];
-    // Every K and every N.
+    every_size(&mut random, &mut jobs);
+    small_pools(&mut random, &mut jobs);
+    larger_pools(&mut random, &mut jobs);
+    spoilt_pools(&mut random, &mut jobs);
+    sessions(&mut jobs);
+    jobs.extend((1..=4).map(|k| Job::Long { k }));
+    random.shuffle(&mut jobs);
+    // The longest jobs: early, so that no thread is left with one at the end, but behind short ones, whose failures are
+    // cut down sooner.
+    let early = jobs.len() / 8;
+    let all = histories().into_iter();
+    jobs.splice(
+        early..early,
+        all.map(|(k, shape)| Job::History { k, shape }),
+    );
+    jobs
+}
+
+/// Sequences for every K and every N.
+fn every_size(random: &mut Random, jobs: &mut Vec<Job>) {
     for k in 1..=4 {
         for n in 2..=512 {
             let shape = *random.pick(&SHAPES);
@@ -66,7 +85,10 @@ pub fn round(seed: u64, round: u64) -> Vec<Job> {
             }));
         }
     }
-    // Small pools that run full, are emptied and filled again.
+}
+
+/// Small pools that run full, are emptied and filled again.
+fn small_pools(random: &mut Random, jobs: &mut Vec<Job>) {
     for k in 1..=4 {
         for shape in SHAPES {
             for _ in 0..9 {
@@ -86,7 +108,10 @@ pub fn round(seed: u64, round: u64) -> Vec<Job> {
             }
         }
     }
-    // Larger ones, from nothing and nearly full.
+}
+
+/// Larger ones, from nothing and nearly full.
+fn larger_pools(random: &mut Random, jobs: &mut Vec<Job>) {
     for k in 1..=4 {
         for shape in SHAPES {
             jobs.push(Job::Sequence(Plan {
@@ -112,7 +137,10 @@ pub fn round(seed: u64, round: u64) -> Vec<Job> {
             }));
         }
     }
-    // Spoilt pools: mostly small, some of every size.
+}
+
+/// Spoilt pools: mostly small, some of every size.
+fn spoilt_pools(random: &mut Random, jobs: &mut Vec<Job>) {
     for number in 0..2100 {
         let n = match number % 30 {
             0 => random.from(129, 512),
@@ -127,33 +155,18 @@ pub fn round(seed: u64, round: u64) -> Vec<Job> {
             pools: 50,
         });
     }
+}
+
+/// Sessions of frames: short ones, longer ones, and two of many lines.
+fn sessions(jobs: &mut Vec<Job>) {
     for number in 0..60 {
-        jobs.push(match number {
-            0..=19 => Job::Frames {
-                sessions: 20,
-                lines: 6,
-            },
-            20..=57 => Job::Frames {
-                sessions: 5,
-                lines: 400,
-            },
-            _ => Job::Frames {
-                sessions: 1,
-                lines: 12_000,
-            },
-        });
+        let (sessions, lines) = match number {
+            0..=19 => (20, 6),
+            20..=57 => (5, 400),
+            _ => (1, 12_000),
+        };
+        jobs.push(Job::Frames { sessions, lines });
     }
-    jobs.extend((1..=4).map(|k| Job::Long { k }));
-    random.shuffle(&mut jobs);
-    // The longest jobs: early, so that no thread is left with one at the end, but behind short ones, whose failures are
-    // cut down sooner.
-    let early = jobs.len() / 8;
-    let all = histories().into_iter();
-    jobs.splice(
-        early..early,
-        all.map(|(k, shape)| Job::History { k, shape }),
-    );
-    jobs
 }
 
 /// What is compared: the second program, the other one, and the other frame program if there is one.

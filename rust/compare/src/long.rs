@@ -7,7 +7,7 @@ use crate::step::{Step, Work};
 
 /// Lengths just above the longest pool and around the powers of two where a count of words might break off: whole
 /// pages, part pages, and such as are good lengths by their last 16 bits.
-pub const LENGTHS: [usize; 32] = [
+const LENGTHS: [usize; 32] = [
     16_385, 16_400, 16_415, 16_416, 16_417, 16_447, 16_448, 16_480, 16_512, 20_000, 24_576, 32_736,
     32_767, 32_768, 32_769, 32_800, 32_832, 40_001, 49_152, 65_504, 65_535, 65_536, 65_537, 65_568,
     65_600, 66_560, 81_888, 81_920, 81_952, 100_000, 131_072, 131_136,

@@ -147,7 +147,7 @@ pub fn sequence(run: &mut Run, random: Random, plan: Plan) -> Outcome {
 pub fn history(run: &mut Run, random: Random, k: usize, shape: Shape) -> Outcome {
     let mut sequence = Sequence::new(run, random, k, 512, shape);
     sequence.again = false;
-    // One domain has enough keys in it, too.
+    // Clusters this wide have points enough to fill the pool, with one domain, too.
     sequence.keys.spread = 4000;
     let before = sequence.run.counts.calls();
     let (mut calls, mut full, mut placed) = (0, None, 0);
@@ -176,6 +176,7 @@ pub fn history(run: &mut Run, random: Random, k: usize, shape: Shape) -> Outcome
     if full.is_some() {
         counts.went_on += 1;
         counts.placed_later += counts.answers[2][0] - placed;
+        counts.least_placed_later = Some(counts.answers[2][0] - placed);
     }
     Ok(())
 }

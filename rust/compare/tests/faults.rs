@@ -6,7 +6,7 @@ use compare::index::{Bound, Index, Proved, Second};
 use compare::jobs::{cut_down, small, work, Compared, Job};
 use compare::random::{Random, Shape};
 use compare::run::{fails, Failure};
-use compare::step::{parse_all, Step};
+use compare::step::{parse_all, Step, Work};
 use std::process::Command;
 use std::time::Duration;
 
@@ -18,7 +18,7 @@ fn indexes<'a>(right: &'a dyn Index, other: &'a dyn Index) -> Compared<'a> {
     }
 }
 
-/// Where a fault is looked for: on small pools, but for those that only one part of the comparison can show.
+/// Where a fault is looked for: on small pools, but for those that small pools do not show.
 fn seen(name: &str, compared: Compared) -> Option<Box<Failure>> {
     let job = match name {
         "find-deep" => Job::Spoilt {
@@ -75,6 +75,46 @@ fn a_death_is_seen_and_cut_down() {
     assert!(text.contains("the last one shows: death"), "{text}");
     let steps = parse_all(&text).expect("steps");
     assert_eq!(fails(&Second, &Second, &steps), None);
+    // What is left dies by itself, and only with the fault.
+    let file = std::path::Path::new(env!("CARGO_TARGET_TMPDIR")).join("death");
+    std::fs::write(&file, &text).expect("it is written");
+    let file = file.display().to_string();
+    let (code, text) = run(&["--fault", "aborts", "--replay", &file]);
+    assert_eq!(code, None, "{text}");
+    let (code, text) = run(&["--itself", "--replay", &file]);
+    assert_eq!(code, Some(0), "{text}");
+}
+
+/// A pool of two pages by the last 16 bits of its length: each of the six calls takes it with the fault.
+#[test]
+fn a_length_of_16_bits_is_seen_in_every_call() {
+    let other = broken("length-16").expect("a fault of the list");
+    let place = Step::Place {
+        point: vec![5],
+        location: 70,
+        work: Work::Same,
+        junk: 3,
+    };
+    let list = Step::List {
+        window: vec![0, 9],
+        slots: 2,
+        junk: 3,
+    };
+    let calls = [Step::Format(1), Step::Check, place, list];
+    let (remove, find) = (Step::Remove(vec![5]), Step::Find(vec![5]));
+    for call in calls.into_iter().chain([remove, find]) {
+        let header = vec![1, 2];
+        let steps = [
+            Step::Lend(65_536 + 64),
+            Step::Words {
+                at: 0,
+                words: header,
+            },
+            call,
+        ];
+        let shown = fails(&Second, &other, &steps).map(|(at, _)| at);
+        assert_eq!(shown, Some(2), "{}", steps[2]);
+    }
 }
 
 /// The steps made of their own text.

@@ -6,8 +6,9 @@
 //! back.
 //!
 //! The calls themselves are written in Rattle and proved, for every input: what each one gives, and every word of every
-//! buffer afterwards. This crate lends them slices. What C leaves to its caller, buffers that do not overlap and true
-//! lengths, the borrow checker sees to here, so every function is safe.
+//! buffer afterwards. This crate lends them slices. What C leaves to its caller, buffers that do not overlap, true lengths
+//! and threads, the borrow checker sees to here, so every function is safe. Enough stack is still the caller's: the calls
+//! go down the tree by recursion, one step a level, and for 511 levels, which only a pool made by hand has, 1 MB will do.
 //!
 //! The functions are lent a pool and allocate nothing. A [`Pool`] owns its words and the work buffer, and its methods
 //! are the same calls. [`raw`] has them as C has them, with numbers. include/korytanka.h says how many records fit in a
@@ -79,6 +80,8 @@ pub const PAGE_WORDS: usize = 32;
 pub const LEAST_PAGES: usize = 2;
 /// The most pages of a pool.
 pub const MOST_PAGES: usize = 512;
+/// The words of the longest pool.
+pub const MOST_WORDS: usize = MOST_PAGES * PAGE_WORDS;
 /// The most domains, that is, keys of a point.
 pub const MOST_DOMAINS: usize = 4;
 /// The highest key.
@@ -92,6 +95,7 @@ pub const INFINITY: u32 = u32::MAX;
 /// that fits.
 #[derive(Clone, Copy, Debug, PartialEq, Eq, Hash)]
 #[repr(u32)]
+#[non_exhaustive]
 pub enum Refusal {
     /// 1: the pool is not 32 × N words, N from 2 to 512.
     PoolLength = 1,
@@ -117,7 +121,7 @@ pub enum Refusal {
 
 impl Refusal {
     /// All refusals, in the order of their numbers.
-    pub const ALL: [Refusal; 9] = [
+    pub const ALL: &'static [Refusal] = &[
         Refusal::PoolLength,
         Refusal::Domains,
         Refusal::BufferLength,
@@ -153,7 +157,9 @@ impl fmt::Display for Refusal {
         f.write_str(match self {
             Refusal::PoolLength => "the pool is not 32 x N words, N from 2 to 512",
             Refusal::Domains => "K is not 1 to 4",
-            Refusal::BufferLength => "a point, a window or the work buffer has another length",
+            Refusal::BufferLength => {
+                "the point is not K words, the window not 2K, or work not as long as the pool"
+            }
             Refusal::InfiniteKey => "a key or an end of a window is 4294967295",
             Refusal::WindowOrder => "a lower end of the window is above its upper end",
             Refusal::Unsound => "the pool is not sound",
@@ -199,7 +205,7 @@ pub fn format(pool: &mut [u32], k: u32) -> Result<(), Refusal> {
     answered(raw::format(pool, k), ())
 }
 
-/// Tells whether the pool is sound: every word of it is as a tree of its records leaves it.
+/// Tells whether the pool is sound: it is a tree as docs/FORMAT.md describes it, every word of it.
 ///
 /// Refusals: [`PoolLength`](Refusal::PoolLength), [`Unsound`](Refusal::Unsound).
 ///
@@ -341,7 +347,7 @@ pub fn list<'a>(
 /// # Ok(())
 /// # }
 /// ```
-#[derive(Clone, Debug)]
+#[derive(Clone)]
 pub struct Pool {
     words: Vec<u32>,
     work: Vec<u32>,
@@ -357,11 +363,34 @@ impl Pool {
         Ok(Pool { words, work })
     }
 
-    /// A pool of words that were stored; refused unless they are sound. See [`check`].
-    pub fn from_words(words: Vec<u32>) -> Result<Pool, Refusal> {
-        check(&words)?;
+    /// A pool of words that were stored; refused unless they are sound, and given back then. See [`check`].
+    ///
+    /// ```
+    /// let refused = korytanka::Pool::from_words(vec![7; 64]).unwrap_err();
+    /// assert_eq!(refused.refusal, korytanka::Refusal::Unsound);
+    /// assert_eq!(refused.words, [7; 64]);
+    /// ```
+    pub fn from_words(words: Vec<u32>) -> Result<Pool, RefusedWords> {
+        if let Err(refusal) = check(&words) {
+            return Err(RefusedWords { refusal, words });
+        }
         let work = words.clone();
         Ok(Pool { words, work })
+    }
+
+    /// The domains, K.
+    pub fn domains(&self) -> u32 {
+        self.words[0]
+    }
+
+    /// The pages, N, the header counted.
+    pub fn pages(&self) -> usize {
+        self.words.len() / PAGE_WORDS
+    }
+
+    /// The records that are in the pool.
+    pub fn records(&self) -> u32 {
+        self.words[4]
     }
 
     /// The words, to store or to look at.
@@ -400,13 +429,55 @@ impl Pool {
     }
 }
 
+impl fmt::Debug for Pool {
+    fn fmt(&self, f: &mut fmt::Formatter<'_>) -> fmt::Result {
+        f.debug_struct("Pool")
+            .field("domains", &self.domains())
+            .field("pages", &self.pages())
+            .field("records", &self.records())
+            .finish_non_exhaustive()
+    }
+}
+
+/// What [`Pool::from_words`] gives when it refuses: why, and the words. `?` makes a [`Refusal`] of it.
+#[derive(Clone, PartialEq, Eq)]
+#[non_exhaustive]
+pub struct RefusedWords {
+    /// Why the words are no pool.
+    pub refusal: Refusal,
+    /// The words, unchanged.
+    pub words: Vec<u32>,
+}
+
+impl fmt::Debug for RefusedWords {
+    fn fmt(&self, f: &mut fmt::Formatter<'_>) -> fmt::Result {
+        f.debug_struct("RefusedWords")
+            .field("refusal", &self.refusal)
+            .finish_non_exhaustive()
+    }
+}
+
+impl fmt::Display for RefusedWords {
+    fn fmt(&self, f: &mut fmt::Formatter<'_>) -> fmt::Result {
+        self.refusal.fmt(f)
+    }
+}
+
+impl Error for RefusedWords {}
+
+impl From<RefusedWords> for Refusal {
+    fn from(refused: RefusedWords) -> Refusal {
+        refused.refusal
+    }
+}
+
 #[cfg(test)]
 mod tests {
     use super::*;
 
     #[test]
     fn numbers_and_names_agree() {
-        for refusal in Refusal::ALL {
+        for &refusal in Refusal::ALL {
             assert_eq!(answered(refusal.number(), ()), Err(refusal));
         }
         assert_eq!(answered(0, 3), Ok(3));

@@ -2,10 +2,12 @@
 //!
 //! The functions of the crate's root make a [`Result`] of number and fields. The library is called here and nowhere else:
 //! each `unsafe` block is one call. What the header leaves to the caller holds because every pointer and length is a
-//! slice's own, and a `&mut` slice overlaps no other.
+//! slice's own, and a `&mut` slice overlaps no other. Enough stack is still the caller's: 1 MB has room for the deepest
+//! pool.
 
 /// What [`remove`] returns.
 #[derive(Clone, Copy, Debug, PartialEq, Eq)]
+#[must_use]
 #[repr(C)]
 pub struct Removed {
     /// 0, or the refusal's number.
@@ -16,6 +18,7 @@ pub struct Removed {
 
 /// What [`find`] returns.
 #[derive(Clone, Copy, Debug, PartialEq, Eq)]
+#[must_use]
 #[repr(C)]
 pub struct Found {
     /// 0, or the refusal's number.
@@ -28,6 +31,7 @@ pub struct Found {
 
 /// What [`list`] returns.
 #[derive(Clone, Copy, Debug, PartialEq, Eq)]
+#[must_use]
 #[repr(C)]
 pub struct Listed {
     /// 0, or the refusal's number.
@@ -73,16 +77,19 @@ extern "C" {
 }
 
 /// See [`format`](crate::format()). Gives the number.
+#[must_use]
 pub fn format(pool: &mut [u32], k: u32) -> u32 {
     unsafe { korytanka_format(pool.as_mut_ptr(), pool.len(), k) }
 }
 
 /// See [`check`](crate::check). Gives the number.
+#[must_use]
 pub fn check(pool: &[u32]) -> u32 {
     unsafe { korytanka_check(pool.as_ptr(), pool.len()) }
 }
 
 /// See [`place`](crate::place). Gives the number.
+#[must_use]
 pub fn place(pool: &mut [u32], work: &mut [u32], point: &[u32], location: u32) -> u32 {
     unsafe {
         korytanka_place(
@@ -136,6 +143,34 @@ mod tests {
             assert_eq!(korytanka_remove(nowhere, 0, nothing, 0).number, 1);
             assert_eq!(korytanka_find(nothing, 0, nothing, 0).number, 1);
             assert_eq!(korytanka_list(nothing, 0, nothing, 0, nowhere, 0).number, 1);
+        }
+    }
+
+    /// The same beside a good pool: work buffer, point, window and answer buffer.
+    #[test]
+    fn no_words_may_be_null_beside_a_pool() {
+        let (nothing, nowhere) = (std::ptr::null(), std::ptr::null_mut());
+        let (mut pool, mut work, point, window) = ([7; 64], [7; 64], [5], [0, 9]);
+        assert_eq!(format(&mut pool, 1), 0);
+        assert_eq!(place(&mut pool, &mut work, &point, 70), 0);
+        let (placed, before) = (pool, work);
+        let (pool, work) = (pool.as_mut_ptr(), work.as_mut_ptr());
+        let (point, window) = (point.as_ptr(), window.as_ptr());
+        unsafe {
+            assert_eq!(korytanka_place(pool, 64, nowhere, 0, point, 1, 71), 3);
+            assert_eq!(korytanka_place(pool, 64, work, 64, nothing, 0, 71), 3);
+            assert_eq!(korytanka_remove(pool, 64, nothing, 0).number, 3);
+            assert_eq!(korytanka_find(pool, 64, nothing, 0).number, 3);
+            let listed = korytanka_list(pool, 64, nothing, 0, nowhere, 0);
+            assert_eq!(listed.number, 3);
+            let listed = korytanka_list(pool, 64, window, 2, nowhere, 0);
+            assert_eq!((listed.number, listed.total, listed.reads), (0, 1, 1));
+            assert_eq!(std::slice::from_raw_parts(pool, 64), placed);
+            assert_eq!(std::slice::from_raw_parts(work, 64), before);
+            // A bad page: no slots are zeroed.
+            pool.add(32).write(1);
+            let listed = korytanka_list(pool, 64, window, 2, nowhere, 0);
+            assert_eq!((listed.number, listed.total, listed.reads), (6, 0, 0));
         }
     }
 }

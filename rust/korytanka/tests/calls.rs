@@ -256,6 +256,10 @@ fn pools_of_any_size_are_made_or_refused() {
         assert_eq!(made.as_ref().map_or_else(|r| r.number(), |_| 0), number);
         if let Ok(pool) = made {
             assert_eq!(pool.words().len(), PAGE_WORDS * pages);
+            assert_eq!(
+                (pool.domains(), pool.pages(), pool.records()),
+                (k, pages, 0)
+            );
             assert_eq!(pool.check(), Ok(()));
         }
     }
@@ -269,6 +273,9 @@ fn a_pool_owns_its_words() {
     }
     let (words, _) = fifteen(4);
     assert_eq!(pool.words(), words);
+    assert_eq!(pool.records(), 15);
+    let short = "Pool { domains: 1, pages: 4, records: 15, .. }";
+    assert_eq!(format!("{pool:?}"), short);
     assert_eq!(pool.place(&[150], 1), Err(Refusal::Present));
     assert_eq!(pool.place(&[1, 2], 1), Err(Refusal::BufferLength));
     let found = Found {
@@ -318,13 +325,78 @@ fn a_pool_is_stored_and_opened_again() {
     assert_eq!(pool.remove(&[1, 2, 3, 4]), Ok(5));
 
     // Not a pool's length, a word changed, and the wrong byte order.
-    let refused = |words: Vec<u32>| Pool::from_words(words).unwrap_err();
+    let refused = |words: Vec<u32>| {
+        let refused = Pool::from_words(words.clone()).unwrap_err();
+        assert_eq!(refused.words, words);
+        assert_eq!(refused.to_string(), refused.refusal.to_string());
+        refused.refusal
+    };
     assert_eq!(refused(stored[1..].to_vec()), Refusal::PoolLength);
     let mut spoilt = stored.clone();
     spoilt[5] = 1;
     assert_eq!(refused(spoilt), Refusal::Unsound);
     let swapped = stored.iter().map(|word| word.swap_bytes());
     assert_eq!(refused(swapped.collect()), Refusal::Unsound);
+}
+
+/// A pool of 511 levels: region pages with one entry each, the whole space, and at the end a point page with one record.
+fn deepest(k: usize) -> Vec<u32> {
+    let mut pool = vec![0; MOST_WORDS];
+    pool[..5].copy_from_slice(&[k as u32, MOST_PAGES as u32, 1, MOST_PAGES as u32 - 1, 1]);
+    for (number, page) in pool.chunks_mut(PAGE_WORDS).enumerate().skip(1) {
+        if number + 1 < MOST_PAGES {
+            page[..2].copy_from_slice(&[1, 1]);
+            page[4 + k..4 + 2 * k].fill(INFINITY);
+            page[4 + 2 * k] = number as u32 + 1;
+        } else {
+            page[..2].copy_from_slice(&[2, 1]);
+            page[4..5 + k].fill(5);
+        }
+    }
+    pool
+}
+
+/// Every call on it in a thread with 1 MB of stack, which the header calls enough.
+#[test]
+fn the_deepest_pool_takes_no_more_than_a_megabyte_of_stack() {
+    let calls = || {
+        for (k, points) in [(1, 14), (2, 9), (3, 7), (4, 5)] {
+            let mut pool = deepest(k);
+            let mut work = vec![7; MOST_WORDS];
+            let levels = MOST_PAGES as u32 - 1;
+            assert_eq!(check(&pool), Ok(()));
+            let again = place(&mut pool, &mut work, &vec![5; k], 6);
+            assert_eq!(again, Err(Refusal::Present));
+            for key in 10..9 + points {
+                let before = pool.clone();
+                assert_eq!(place(&mut pool, &mut work, &vec![key; k], key), Ok(()));
+                assert_eq!(work, before);
+            }
+            // The point page is full, and no page is free.
+            let before = pool.clone();
+            let full = place(&mut pool, &mut work, &vec![9; k], 9);
+            assert_eq!(full, Err(Refusal::NoFreePage));
+            assert!(pool == before && work == before);
+            let found = find(&pool, &vec![10; k]).unwrap();
+            assert_eq!((found.location, found.reads), (10, levels));
+            assert_eq!(find(&pool, &vec![9; k]), Err(Refusal::Absent));
+            let window = [vec![0; k], vec![10; k]].concat();
+            let mut answer = [7; 3];
+            let listed = list(&pool, &window, &mut answer).unwrap();
+            assert_eq!((listed.locations, listed.reads), (&[5, 10][..], levels));
+            assert_eq!(remove(&mut pool, &vec![5; k]), Ok(5));
+            assert_eq!(remove(&mut pool, &vec![5; k]), Err(Refusal::Absent));
+            assert_eq!(check(&pool), Ok(()));
+            // The last page is bad: every walk gets there, and every slot is zeroed.
+            pool[MOST_WORDS - PAGE_WORDS] = 1;
+            assert_eq!(check(&pool), Err(Refusal::Unsound));
+            assert_eq!(find(&pool, &vec![10; k]), Err(Refusal::Unsound));
+            assert_eq!(list(&pool, &window, &mut answer), Err(Refusal::Unsound));
+            assert_eq!(answer, [0; 3]);
+        }
+    };
+    let thread = std::thread::Builder::new().stack_size(1 << 20);
+    thread.spawn(calls).unwrap().join().unwrap();
 }
 
 /// Check, find and list by four threads on one pool.
@@ -375,13 +447,13 @@ fn the_header_says_the_same() {
     assert_eq!(value("PAGE_WORDS"), PAGE_WORDS);
     assert_eq!(value("LEAST_PAGES"), LEAST_PAGES);
     assert_eq!(value("MOST_PAGES"), MOST_PAGES);
-    assert_eq!(value("MOST_WORDS"), MOST_PAGES * PAGE_WORDS);
+    assert_eq!(value("MOST_WORDS"), MOST_WORDS);
     assert_eq!(value("MOST_DOMAINS"), MOST_DOMAINS);
     assert_eq!(value("MOST_KEY"), MOST_KEY as usize);
     assert_eq!(value("INFINITY"), INFINITY as usize);
     assert_eq!(value("DONE"), 0);
     // The names are the variants' in capitals: PoolLength is REFUSED_POOL_LENGTH.
-    for refusal in Refusal::ALL {
+    for &refusal in Refusal::ALL {
         let mut name = String::from("REFUSED");
         for letter in format!("{refusal:?}").chars() {
             if letter.is_uppercase() {
