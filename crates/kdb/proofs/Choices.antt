@@ -1,5 +1,5 @@
--- The choices of placing: one table, one statement, `choices`. Every pool here was written by the second program (rust/second), not by
--- the definitions.
+-- The choices of placing, with walks and removes over many levels and in domains 2 and 3: one table, one statement, `choices`. Every pool
+-- here was written by the second program (rust/second), not by the definitions.
 use mathlib.Core.Bool.{true}
 use mathlib.Core.List.{List, [], _∷_}
 use mathlib.Core.Path.{_≡_, refl}
@@ -222,7 +222,7 @@ sixth-after =
     ∷ (1 ∷ 2 ∷ 0 ∷ 0 ∷ 0 ∷ 0 ∷ 0 ∷ 0 ∷ inf ∷ inf ∷ inf ∷ 3 ∷ 1 ∷ 0 ∷ 0 ∷ 0 ∷ 3 ∷ inf ∷ inf ∷ inf ∷ inf ∷ 2 ∷ [])
     ∷ [] ∷ [])
 
--- three levels, K = 4, on n pages: the root, page 5, lists page 2 alone, and that lists pages 4, 1 and 3, which domains 2 and 3 tell apart. The
+-- three levels, K = 4, on n pages: the root, page 5, lists page 2 alone, and that pages 4, 1 and 3, which domains 2 and 3 tell apart. The
 -- sixth point of page 3 splits it along 20 in domain 2, since domains 3, 0 and 1 offer no cut, and that page 2 along 50 in domain 3, which
 -- page 4 crosses
 abbrev pub deep : ℕ → List (List ℕ) → List ℕ

@@ -143,6 +143,8 @@ table =
     ∷ walks "list: 9 regions of K 1" (but 33 9 two) (list (0 ∷ 99 ∷ []) (9 ∷ 9 ∷ 9 ∷ [])) (0 ∷ 4 ∷ 3 ∷ []) (11 ∷ 12 ∷ 13 ∷ []) (1 ∷ 2 ∷ 3 ∷ [])
     ∷ walks "find: 10 regions of K 1" (but 33 10 two) (find (10 ∷ [])) (6 ∷ []) [] (1 ∷ [])
     ∷ walks "list: 10 regions of K 1" (but 33 10 two) (list (0 ∷ 99 ∷ []) (9 ∷ 9 ∷ 9 ∷ [])) (6 ∷ []) (0 ∷ 0 ∷ 0 ∷ []) (1 ∷ [])
+    ∷ walks "find: 4 regions of K 4" (but 97 4 cut-3) (find (3 ∷ 5 ∷ 9 ∷ 2 ∷ [])) (6 ∷ []) [] (3 ∷ [])
+    ∷ walks "find: 6 points of K 4" (but 33 6 cut-3) (find (3 ∷ 5 ∷ 9 ∷ 2 ∷ [])) (6 ∷ []) [] (3 ∷ 1 ∷ [])
     ∷ walks "find: a region page without entries" (but 33 0 two) (find (10 ∷ [])) (6 ∷ []) [] (1 ∷ [])
     ∷ walks "list: a region page without entries" (but 33 0 two) (list (0 ∷ 99 ∷ []) (9 ∷ 9 ∷ 9 ∷ [])) (6 ∷ []) (0 ∷ 0 ∷ 0 ∷ []) (1 ∷ [])
     ∷ walks "find: one level too many" (but 3 3 two) (find (10 ∷ [])) (6 ∷ []) [] (1 ∷ 2 ∷ [])
