@@ -1,13 +1,13 @@
--- The choices of placing: one table, one statement, `choices`. Every pool here was written by the second program (rust/second), not by
--- the definitions.
+-- The choices of placing, with walks and removes over many levels and in domains 2 and 3: one table, one statement, `choices`. Every pool
+-- here was written by the second program (rust/second), not by the definitions.
 use mathlib.Core.Bool.{true}
 use mathlib.Core.List.{List, [], _∷_}
 use mathlib.Core.Path.{_≡_, refl}
 use Prim.Native.Nat.{ℕ}
 use Rattle.kdb.specs.Pool.{goodLength, goodHeader}
 use Rattle.kdb.specs.Print.{sound}
-use Rattle.kdb.specs.Calls.{format, check, place, remove, outcome}
-use Rattle.kdb.proofs.Rows.{Row, passAll, turns, leaves, lists, stores, junk, pool-of, done, top, inf}
+use Rattle.kdb.specs.Calls.{format, check, place, remove, find, outcome}
+use Rattle.kdb.proofs.Rows.{Row, passAll, tells, turns, leaves, lists, walks, stores, junk, pool-of, done, top, inf}
 
 -- the first of three entries is split; pages 3 and 6 are free
 abbrev pub first-entry : List ℕ
@@ -222,6 +222,44 @@ sixth-after =
     ∷ (1 ∷ 2 ∷ 0 ∷ 0 ∷ 0 ∷ 0 ∷ 0 ∷ 0 ∷ inf ∷ inf ∷ inf ∷ 3 ∷ 1 ∷ 0 ∷ 0 ∷ 0 ∷ 3 ∷ inf ∷ inf ∷ inf ∷ inf ∷ 2 ∷ [])
     ∷ [] ∷ [])
 
+-- three levels, K = 4, on n pages: the root, page 5, lists page 2 alone, and that pages 4, 1 and 3, which domains 2 and 3 tell apart. The
+-- sixth point of page 3 splits it along 20 in domain 2, since domains 3, 0 and 1 offer no cut, and that page 2 along 50 in domain 3, which
+-- page 4 crosses
+abbrev pub deep : ℕ → List (List ℕ) → List ℕ
+deep n free =
+    pool-of ((4 ∷ n ∷ 5 ∷ 3 ∷ 8 ∷ [])
+    ∷ (2 ∷ 1 ∷ 2 ∷ 0 ∷ 1 ∷ 2 ∷ 30 ∷ 49 ∷ 11 ∷ [])
+    ∷ (1 ∷ 3 ∷ 3 ∷ 0 ∷ 0 ∷ 0 ∷ 0 ∷ 0 ∷ inf ∷ inf ∷ 10 ∷ inf ∷ 4 ∷ 0 ∷ 0 ∷ 10 ∷ 0 ∷ inf ∷ inf ∷ inf ∷ 50 ∷ 1 ∷ 0 ∷ 0 ∷ 10 ∷ 50 ∷ inf ∷ inf ∷ inf ∷ inf ∷ 3 ∷ [])
+    ∷ (2 ∷ 5 ∷ 3 ∷ 0 ∷ 7 ∷ 7 ∷ 12 ∷ 50 ∷ 31 ∷ 7 ∷ 7 ∷ 30 ∷ 50 ∷ 32 ∷ 7 ∷ 7 ∷ 20 ∷ 50 ∷ 33 ∷ 7 ∷ 7 ∷ 14 ∷ 50 ∷ 34 ∷ 7 ∷ 7 ∷ 25 ∷ 50 ∷ 35 ∷ [])
+    ∷ (2 ∷ 2 ∷ 1 ∷ 0 ∷ 1 ∷ 2 ∷ 3 ∷ 40 ∷ 41 ∷ 1 ∷ 2 ∷ 3 ∷ 60 ∷ 42 ∷ [])
+    ∷ (1 ∷ 1 ∷ 0 ∷ 0 ∷ 0 ∷ 0 ∷ 0 ∷ 0 ∷ inf ∷ inf ∷ inf ∷ inf ∷ 2 ∷ [])
+    ∷ free)
+
+abbrev pub deep-after : List ℕ
+deep-after =
+    pool-of ((4 ∷ 9 ∷ 5 ∷ 3 ∷ 9 ∷ [])
+    ∷ (2 ∷ 1 ∷ 2 ∷ 0 ∷ 1 ∷ 2 ∷ 30 ∷ 49 ∷ 11 ∷ [])
+    ∷ (1 ∷ 2 ∷ 0 ∷ 0 ∷ 0 ∷ 0 ∷ 0 ∷ 0 ∷ inf ∷ inf ∷ 10 ∷ 50 ∷ 4 ∷ 0 ∷ 0 ∷ 10 ∷ 0 ∷ inf ∷ inf ∷ inf ∷ 50 ∷ 1 ∷ [])
+    ∷ (2 ∷ 3 ∷ 3 ∷ 0 ∷ 7 ∷ 7 ∷ 12 ∷ 50 ∷ 31 ∷ 7 ∷ 7 ∷ 14 ∷ 50 ∷ 34 ∷ 7 ∷ 7 ∷ 16 ∷ 50 ∷ 19 ∷ [])
+    ∷ (2 ∷ 1 ∷ 1 ∷ 0 ∷ 1 ∷ 2 ∷ 3 ∷ 40 ∷ 41 ∷ [])
+    ∷ (1 ∷ 2 ∷ 0 ∷ 0 ∷ 0 ∷ 0 ∷ 0 ∷ 0 ∷ inf ∷ inf ∷ inf ∷ 50 ∷ 2 ∷ 0 ∷ 0 ∷ 0 ∷ 50 ∷ inf ∷ inf ∷ inf ∷ inf ∷ 7 ∷ [])
+    ∷ (2 ∷ 3 ∷ 3 ∷ 0 ∷ 7 ∷ 7 ∷ 30 ∷ 50 ∷ 32 ∷ 7 ∷ 7 ∷ 20 ∷ 50 ∷ 33 ∷ 7 ∷ 7 ∷ 25 ∷ 50 ∷ 35 ∷ [])
+    ∷ (1 ∷ 3 ∷ 0 ∷ 0 ∷ 0 ∷ 0 ∷ 0 ∷ 50 ∷ inf ∷ inf ∷ 10 ∷ inf ∷ 8 ∷ 0 ∷ 0 ∷ 10 ∷ 50 ∷ inf ∷ inf ∷ 20 ∷ inf ∷ 3 ∷ 0 ∷ 0 ∷ 20 ∷ 50 ∷ inf ∷ inf ∷ inf ∷ inf ∷ 6 ∷ [])
+    ∷ (2 ∷ 1 ∷ 1 ∷ 0 ∷ 1 ∷ 2 ∷ 3 ∷ 60 ∷ 42 ∷ []) ∷ [])
+
+-- the records of 7, 7, 20, 50 and of 1, 2, 3, 60 are gone
+abbrev pub deep-removed : List ℕ
+deep-removed =
+    pool-of ((4 ∷ 9 ∷ 5 ∷ 3 ∷ 6 ∷ [])
+    ∷ (2 ∷ 1 ∷ 2 ∷ 0 ∷ 1 ∷ 2 ∷ 30 ∷ 49 ∷ 11 ∷ [])
+    ∷ (1 ∷ 3 ∷ 3 ∷ 0 ∷ 0 ∷ 0 ∷ 0 ∷ 0 ∷ inf ∷ inf ∷ 10 ∷ inf ∷ 4 ∷ 0 ∷ 0 ∷ 10 ∷ 0 ∷ inf ∷ inf ∷ inf ∷ 50 ∷ 1 ∷ 0 ∷ 0 ∷ 10 ∷ 50 ∷ inf ∷ inf ∷ inf ∷ inf ∷ 3 ∷ [])
+    ∷ (2 ∷ 4 ∷ 3 ∷ 0 ∷ 7 ∷ 7 ∷ 12 ∷ 50 ∷ 31 ∷ 7 ∷ 7 ∷ 30 ∷ 50 ∷ 32 ∷ 7 ∷ 7 ∷ 14 ∷ 50 ∷ 34 ∷ 7 ∷ 7 ∷ 25 ∷ 50 ∷ 35 ∷ [])
+    ∷ (2 ∷ 1 ∷ 1 ∷ 0 ∷ 1 ∷ 2 ∷ 3 ∷ 40 ∷ 41 ∷ [])
+    ∷ (1 ∷ 1 ∷ 0 ∷ 0 ∷ 0 ∷ 0 ∷ 0 ∷ 0 ∷ inf ∷ inf ∷ inf ∷ inf ∷ 2 ∷ [])
+    ∷ []
+    ∷ []
+    ∷ [] ∷ [])
+
 abbrev pub table : List Row
 table =
     leaves "the first of three entries is split" first-entry (place (junk 224) (25 ∷ 60 ∷ []) 20 ∷ []) ((0 ∷ []) ∷ []) first-entry-after first-entry
@@ -237,6 +275,16 @@ table =
     ∷ turns "remove below three levels" two-cross-after (remove (30 ∷ 15 ∷ []) ∷ check ∷ []) ((0 ∷ 31 ∷ []) ∷ (0 ∷ []) ∷ []) two-cross-removed
     ∷ leaves "K = 3, the eighth point" (junk 128) (format 3 ∷ stores 128 ((3 ∷ 0 ∷ 1 ∷ []) ∷ (3 ∷ 5 ∷ 1 ∷ []) ∷ (3 ∷ 2 ∷ 1 ∷ []) ∷ (3 ∷ 7 ∷ 1 ∷ []) ∷ (3 ∷ 4 ∷ 1 ∷ []) ∷ (3 ∷ 1 ∷ 1 ∷ []) ∷ (3 ∷ 6 ∷ 1 ∷ []) ∷ (3 ∷ 3 ∷ 1 ∷ []) ∷ []) 10) (done 9) eighth-after eighth
     ∷ leaves "K = 4, the sixth point" (junk 160) (format 4 ∷ stores 160 ((3 ∷ 5 ∷ 9 ∷ 2 ∷ []) ∷ (3 ∷ 5 ∷ 9 ∷ 0 ∷ []) ∷ (3 ∷ 5 ∷ 9 ∷ 5 ∷ []) ∷ (3 ∷ 5 ∷ 9 ∷ 3 ∷ []) ∷ (3 ∷ 5 ∷ 9 ∷ 1 ∷ []) ∷ (3 ∷ 5 ∷ 9 ∷ 6 ∷ []) ∷ []) 10) (done 7) sixth-after sixth
+    ∷ leaves "K = 4, a crossing entry below the root" (deep 9 ([] ∷ [] ∷ [] ∷ [])) (place (junk 288) (7 ∷ 7 ∷ 16 ∷ 50 ∷ []) 19 ∷ []) (done 1) deep-after (deep 9 ([] ∷ [] ∷ [] ∷ []))
+    ∷ leaves "no page for a crossing entry" (deep 8 ([] ∷ [] ∷ [])) (place (junk 256) (7 ∷ 7 ∷ 16 ∷ 50 ∷ []) 19 ∷ []) ((9 ∷ []) ∷ []) (deep 8 ([] ∷ [] ∷ [])) (deep 8 ([] ∷ [] ∷ []))
+    ∷ leaves "no page for a region page's right half" (deep 7 ([] ∷ [])) (place (junk 224) (7 ∷ 7 ∷ 16 ∷ 50 ∷ []) 19 ∷ []) ((9 ∷ []) ∷ []) (deep 7 ([] ∷ [])) (deep 7 ([] ∷ []))
+    ∷ tells "K = 4, a find in each page" (deep 9 ([] ∷ [] ∷ [] ∷ [])) (find (1 ∷ 2 ∷ 3 ∷ 60 ∷ []) ∷ find (1 ∷ 2 ∷ 30 ∷ 49 ∷ []) ∷ find (7 ∷ 7 ∷ 25 ∷ 50 ∷ []) ∷ []) ((0 ∷ 42 ∷ 3 ∷ []) ∷ (0 ∷ 11 ∷ 3 ∷ []) ∷ (0 ∷ 35 ∷ 3 ∷ []) ∷ [])
+    ∷ lists "K = 4, a window of domain 3" (deep 9 ([] ∷ [] ∷ [] ∷ [])) (0 ∷ 0 ∷ 0 ∷ 55 ∷ top ∷ top ∷ top ∷ 60 ∷ []) (9 ∷ 9 ∷ []) (0 ∷ 1 ∷ 4 ∷ []) (42 ∷ 9 ∷ [])
+    ∷ lists "K = 4, a window of domain 2" (deep 9 ([] ∷ [] ∷ [] ∷ [])) (0 ∷ 0 ∷ 11 ∷ 0 ∷ top ∷ top ∷ 19 ∷ top ∷ []) (9 ∷ 9 ∷ 9 ∷ []) (0 ∷ 2 ∷ 4 ∷ []) (31 ∷ 34 ∷ 9 ∷ [])
+    ∷ turns "K = 4, a remove in the first page and in the third" (deep 9 ([] ∷ [] ∷ [] ∷ [])) (remove (7 ∷ 7 ∷ 20 ∷ 50 ∷ []) ∷ remove (1 ∷ 2 ∷ 3 ∷ 60 ∷ []) ∷ []) ((0 ∷ 33 ∷ []) ∷ (0 ∷ 42 ∷ []) ∷ []) deep-removed
+    ∷ tells "K = 3, a find on each side of the cut" third-after (find (12 ∷ 4 ∷ 30 ∷ []) ∷ find (14 ∷ 4 ∷ 50 ∷ []) ∷ []) ((0 ∷ 11 ∷ 3 ∷ []) ∷ (0 ∷ 13 ∷ 3 ∷ []) ∷ [])
+    ∷ lists "K = 3, a window of domain 2" third-after (0 ∷ 0 ∷ 20 ∷ top ∷ top ∷ 30 ∷ []) (9 ∷ 9 ∷ 9 ∷ []) (0 ∷ 2 ∷ 6 ∷ []) (11 ∷ 14 ∷ 9 ∷ [])
+    ∷ walks "a find over four levels" three-levels-after (find (50 ∷ 10 ∷ 0 ∷ 1 ∷ [])) (0 ∷ 52 ∷ 4 ∷ []) [] (18 ∷ 10 ∷ 15 ∷ 17 ∷ [])
     ∷ []
 
 pub choices : passAll table ≡ true
