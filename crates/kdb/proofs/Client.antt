@@ -10,10 +10,10 @@ use lib.ListN.{length, take, replicate, getD, length-append, length-map}
 use borrow.Author.Tests.{le-leb, eq-eqb, ne-eqb}
 use Rattle.kdb.specs.Lists.{every, Each, gather, andThen}
 use Rattle.kdb.specs.Calls.{L, Call, format, place, remove, find, list, Outcome, outcome}
-use Rattle.kdb.specs.Frames.{between, digit, bytesOf, wordsOf, digitOf, hex, new, call, unknown, newOf, placeOf, slots, withWords, frameOf, framed, parse, found, answerText, Reply, renewed, answered, obey, reply, lines, session}
+use Rattle.kdb.specs.Frames.{between, digit, bytesOf, wordsOf, digitOf, hex, new, call, unknown, placeOf, slots, withWords, frameOf, framed, parse, found, answerText, Reply, renewed, answered, obey, reply, lines, session}
 use Rattle.kdb.specs.Client.{digits, byteText, wordText, Word, answerLine, Answered, Renewed, NoFrame, hexadecimal, upper, Client}
 use Rattle.kdb.proofs.Lists.{and-l, and-r, cases, every-up, each-append}
-use Rattle.kdb.proofs.Frames.{reply-long, lines-break, lines-last}
+use Rattle.kdb.proofs.Frames.{new-other, reply-long, lines-break, lines-last}
 
 -- the sixteen digits, by computing
 table-digit : (d : ℕ) → d < 16 → digitOf d ≡ getD digits d 0
@@ -171,44 +171,33 @@ unframed w a line e = ap (obey w) (go (leb (length (a ∷ line)) 128))
     go true = e
     go false = refl
 
--- how many bytes a line has, and how many words bytes have
-abbrev Pairs : Option (List ℕ) → ℕ → Type 0
-Pairs none n = Unit {0}
-Pairs (some bs) n = n ≡ 2 * length bs
+-- what is read, if anything, has m characters or bytes to each of its parts
+abbrev PartsOf : ℕ → Option (List ℕ) → ℕ → Type 0
+PartsOf m none n = Unit {0}
+PartsOf m (some l) n = n ≡ m * length l
 
-bytes-length : (line : List ℕ) → Pairs (bytesOf line) (length line)
+bytes-length : (line : List ℕ) → PartsOf 2 (bytesOf line) (length line)
 bytes-length [] = refl
 bytes-length (a ∷ []) = tt
 bytes-length (a ∷ b ∷ line) = go (digit a) (digit b) (bytesOf line) (bytes-length line)
   where
-    go : (x y : Option ℕ) (o : Option (List ℕ)) → Pairs o (length line)
-        → Pairs (andThen x (λ h. andThen y (λ l. andThen o (λ bs. some ((16 * h + l) ∷ bs))))) (suc (suc (length line)))
+    go : (x y : Option ℕ) (o : Option (List ℕ)) → PartsOf 2 o (length line)
+        → PartsOf 2 (andThen x (λ h. andThen y (λ l. andThen o (λ bs. some ((16 * h + l) ∷ bs))))) (suc (suc (length line)))
     go none y o i = tt
     go (some h) none o i = tt
     go (some h) (some l) none i = tt
     go (some h) (some l) (some bs) i = omega arith
 
-abbrev Fours : Option (List ℕ) → ℕ → Type 0
-Fours none n = Unit {0}
-Fours (some ws) n = n ≡ 4 * length ws
-
-words-length : (bs : List ℕ) → Fours (wordsOf bs) (length bs)
+words-length : (bs : List ℕ) → PartsOf 4 (wordsOf bs) (length bs)
 words-length [] = refl
 words-length (a ∷ []) = tt
 words-length (a ∷ b ∷ []) = tt
 words-length (a ∷ b ∷ c ∷ []) = tt
 words-length (a ∷ b ∷ c ∷ d ∷ bs) = go (wordsOf bs) (words-length bs)
   where
-    go : (o : Option (List ℕ)) → Fours o (length bs) → Fours (andThen o (λ ws. some ((16777216 * a + 65536 * b + 256 * c + d) ∷ ws))) (suc (suc (suc (suc (length bs)))))
+    go : (o : Option (List ℕ)) → PartsOf 4 o (length bs) → PartsOf 4 (andThen o (λ ws. some ((16777216 * a + 65536 * b + 256 * c + d) ∷ ws))) (suc (suc (suc (suc (length bs)))))
     go none i = tt
     go (some ws) i = omega arith
-
-new-three : (bs : List ℕ) → (length bs ≡ 3 → ⊥) → newOf bs ≡ unknown
-new-three [] h = refl
-new-three (k ∷ []) h = refl
-new-three (k ∷ a ∷ []) h = refl
-new-three (k ∷ a ∷ b ∷ []) h = absurd (h refl)
-new-three (k ∷ a ∷ b ∷ c ∷ bs) h = refl
 
 frame-beyond : (c : ℕ) (bs : List ℕ) → 5 ≤ c → frameOf c bs ≡ unknown
 frame-beyond c bs h = rw (ne-eqb c 0 (λ z. omega arith), ne-eqb c 1 (λ z. omega arith), ne-eqb c 2 (λ z. omega arith), ne-eqb c 3 (λ z. omega arith), ne-eqb c 4 (λ z. omega arith)) refl
@@ -282,20 +271,20 @@ module _ (w : List ℕ) where
   unfit : (line : List ℕ) → (length line ≡ 6 → ⊥) → NoFrame w (byteText 0 ++ line)
   unfit line h = unframed w _ _ (ap framed (byte-back 0 line) ∙ go (bytesOf line) (bytes-length line))
     where
-      go : (o : Option (List ℕ)) → Pairs o (length line) → framed (before 0 o) ≡ unknown
+      go : (o : Option (List ℕ)) → PartsOf 2 o (length line) → framed (before 0 o) ≡ unknown
       go none i = refl
-      go (some bs) i = new-three bs (λ z. h (omega (arith, i)))
+      go (some bs) i = new-other bs (λ z. h (omega (arith, i)))
 
   part : (b : ℕ) (line : List ℕ) → 1 ≤ b → b ≤ 4 → (length line % 8 ≡ 0 → ⊥) → NoFrame w (byteText b ++ line)
   part b line h i n =
       let q : 1 ≤ b % 256 = omega arith in
       unframed w _ _ (ap framed (byte-back b line) ∙ go (bytesOf line) q (bytes-length line))
     where
-      none-words : (bs : List ℕ) (o : Option (List ℕ)) → length line ≡ 2 * length bs → Fours o (length bs) → o ≡ none
+      none-words : (bs : List ℕ) (o : Option (List ℕ)) → length line ≡ 2 * length bs → PartsOf 4 o (length bs) → o ≡ none
       none-words bs none e f = refl
       none-words bs (some ws) e f = absurd (n (omega arith))
 
-      go : (o : Option (List ℕ)) → 1 ≤ b % 256 → Pairs o (length line) → framed (before (b % 256) o) ≡ unknown
+      go : (o : Option (List ℕ)) → 1 ≤ b % 256 → PartsOf 2 o (length line) → framed (before (b % 256) o) ≡ unknown
       go none q e = refl
       go (some bs) q e = frame-part (b % 256) bs q (none-words bs (wordsOf bs) e (words-length bs))
 

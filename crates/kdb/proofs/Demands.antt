@@ -1,6 +1,6 @@
 -- Demand 2: after any calls on a sound pool the pool is sound, its records are the live ones, and list and find answer by them; from an
 -- accepted format in particular. Demand 3: what a walk reads.
-use mathlib.Core.Bool.{Bool, true, false, _&&_, not, cond}
+use mathlib.Core.Bool.{Bool, true, false, _&&_, not}
 use mathlib.Core.List.{List, [], _∷_, _++_, map}
 use mathlib.Core.Option.{Option, none, some}
 use mathlib.Core.Path.{_≡_, refl, sym, ap, _∙_, subst}
@@ -21,8 +21,8 @@ use Rattle.kdb.specs.Bad.{upToBad, findTrail, listTrail}
 use Rattle.kdb.specs.Calls.{L, Call, format, check, place, remove, find, list, Outcome, goodDomains, finite, present, lent, placing, removing, finding, stepped, outcome, windowOf, walkOf, begins, Promise}
 use Rattle.kdb.specs.History.{answerOf, change, changed, live, Keeps, over, next}
 use Rattle.kdb.specs.Demands.{SameRecords, keyed, ListsExactly, FindsExactly, Moves, ByTheSteps, Built, unbuilt, onto, Demand2, goodWindow, Shares, Demand3, Bounded}
-use Rattle.kdb.proofs.Walk.{walk-bound, walk-pages, walk-silent, list-returns, find-returns}
-use Rattle.kdb.proofs.Lists.{and-l, and-r, and-i, bool, tally-append, to-bit, no-bit, same-refl, In, is-true}
+use Rattle.kdb.proofs.Walk.{walk-bound, walk-pages, walk-silent, walk-find, walk-list, list-returns, find-returns}
+use Rattle.kdb.proofs.Lists.{and-l, and-r, and-i, bool, tally-append, to-bit, no-bit, same-refl, In}
 use Rattle.kdb.proofs.Stands.{Stands}
 use Rattle.kdb.proofs.Views.{finite-whole}
 use Rattle.kdb.proofs.Print.{read-state}
@@ -290,7 +290,7 @@ module _ (w : List ℕ) (s : Sound L w) where
   st = Sound-stands L w s big
 
   walked-list : (v slots : List ℕ) → T (goodWindow (domains w) v) → walkOf w (list v slots) ≡ listWalk L w (windowOf (domains w) v) .read
-  walked-list v slots h = ap (λ b. cond b (listWalk L w (windowOf (domains w) v) .read) []) (is-true (begins w (list v slots)) (list-begins w s v slots h))
+  walked-list v slots h = walk-list w v slots (list-begins w s v slots h)
 
   returned : (v slots : List ℕ) → T (goodWindow (domains w) v) → getD (outcome w (list v slots) .values) 1 0 ≡ length (walkOf w (list v slots))
   returned v slots h = ap (λ l. getD l 1 0) (list-returns w v slots (list-answers w s (recordsOf (stateOf L w)) (λ g. refl) v slots h .done) .1)
@@ -314,35 +314,35 @@ module _ (w : List ℕ) (s : Sound L w) where
             let t3 = and-r (goodHeader L w) _ (and-r (goodLength L w) _ (d .0)) in
             let e = eqb→eq (length p) (domains w) (and-l (eqb (length p) (domains w)) _ t3) in
             let f = and-l (finite p) _ (and-r (eqb (length p) (domains w)) _ t3) in
-            ap (λ l. getD l 1 0) (find-returns w p z .2) ∙ (ap (λ b. length (cond b (findWalk L w p .read) [])) (is-true (begins w (find p)) (d .0))
+            ap (λ l. getD l 1 0) (find-returns w p z .2) ∙ (ap length (walk-find w p (d .0))
             ∙ find-reads L w p (stateOf L w) st (finite-whole (domains w) p e f));
         path = λ p slots h.
             let k = domains w in
             let e = eqb→eq (length p) k (and-l (eqb (length p) k) _ h) in
-            ap (λ b. cond b (findWalk L w p .read) []) (is-true (begins w (find p)) (find-begins w s p h))
+            walk-find w p (find-begins w s p h)
             ∙ (point-path L w p (stateOf L w) st e (and-r (eqb (length p) k) _ h) ∙ sym (walked-list (p ++ p) slots (point-good k p h)));
       }
 
 -- Demand 3, on any words
 find-levelled : (w p : List ℕ) → T (begins w (find p)) → (outcome w (find p) .number ≡ 6 → ⊥) → length (walkOf w (find p)) ≡ levelsAt w
 find-levelled w p h n =
-    ap (λ b. length (cond b (findWalk L w p .read) [])) (is-true (begins w (find p)) h)
+    ap length (walk-find w p h)
     ∙ find-levels L w (omega arith) p (λ e. n (ap (λ o. o .number) (goes-on w (find p) h) ∙ go (findWalk L w p) e))
   where
     go : (g : Search) → g .end ≡ bad → finding g (lent w (find p)) .number ≡ 6
     go g e = rw e
 
 -- a call that begins has a good length
-long-one : (w : List ℕ) → T (goodLength L w) → 1 ≤ pagesIn L w
+pub long-one : (w : List ℕ) → T (goodLength L w) → 1 ≤ pagesIn L w
 long-one w t = omega (arith, length-iff L w .0 t)
 
-list-walked : (w v slots : List ℕ) → T (begins w (list v slots)) → walkOf w (list v slots) ≡ take (pagesIn L w - 1) (upToBad L w (listTrail L w (windowOf (domains w) v)))
-list-walked w v slots h =
-    ap (λ b. cond b (listWalk L w (windowOf (domains w) v) .read) []) (is-true (begins w (list v slots)) h)
+list-goes : (w v slots : List ℕ) → T (begins w (list v slots)) → walkOf w (list v slots) ≡ take (pagesIn L w - 1) (upToBad L w (listTrail L w (windowOf (domains w) v)))
+list-goes w v slots h =
+    walk-list w v slots h
     ∙ list-bound L w (omega arith) (long-one w (and-l (goodLength L w) _ h)) (windowOf (domains w) v) .reads
 
-find-walked : (w p : List ℕ) → T (begins w (find p)) → walkOf w (find p) ≡ upToBad L w (findTrail L w p)
-find-walked w p h = ap (λ b. cond b (findWalk L w p .read) []) (is-true (begins w (find p)) h) ∙ find-trail L w (omega arith) p
+find-goes : (w p : List ℕ) → T (begins w (find p)) → walkOf w (find p) ≡ upToBad L w (findTrail L w p)
+find-goes w p h = walk-find w p h ∙ find-trail L w (omega arith) p
 
 pub bounded : (w : List ℕ) → Bounded w
 bounded w =
@@ -351,8 +351,8 @@ bounded w =
       pages = walk-pages w;
       silent = walk-silent w;
       levelled = find-levelled w;
-      finds = find-walked w;
-      lists = list-walked w;
+      finds = find-goes w;
+      lists = list-goes w;
       found = λ p z. ap (λ l. getD l 1 0) (find-returns w p z .2);
       listed = λ v slots z. ap (λ l. getD l 1 0) (list-returns w v slots z .1);
     }

@@ -11,7 +11,7 @@ use borrow.Author.Tests.{lt-leb}
 use Rattle.kdb.specs.Lists.{every}
 use Rattle.kdb.specs.Pool.{goodLength}
 use Rattle.kdb.specs.Calls.{L, format, place, Buffers, lent, Outcome, gives, refuses, Test, unless, judge, tests, goodDomains, formatted, placing, stepped, outcome}
-use Rattle.kdb.specs.Frames.{Reply, refusal, renewed, lines, reply}
+use Rattle.kdb.specs.Frames.{unknown, newOf, Reply, refusal, renewed, lines, reply}
 use Rattle.kdb.proofs.Lists.{and-l, and-r, is-false}
 
 -- the outcome without the work buffer
@@ -54,6 +54,14 @@ format-length u v w k e =
     ap (λ s. formats u k s (goodDomains k) (formatted v k) v) good
     ∙ ap (λ z. formats u k (goodLength L w) (goodDomains k) z v) made
     ∙ formats-old u k (goodLength L w) (goodDomains k) (formatted w k) v w
+
+-- a format's frame has 3 bytes, or is none
+pub new-other : (bytes : List ℕ) → (length bytes ≡ 3 → ⊥) → newOf bytes ≡ unknown
+new-other [] h = refl
+new-other (k ∷ []) h = refl
+new-other (k ∷ a ∷ []) h = refl
+new-other (k ∷ a ∷ b ∷ []) h = absurd (h refl)
+new-other (k ∷ a ∷ b ∷ c ∷ bytes) h = refl
 
 -- a line of more than 128 characters is no frame
 pub reply-long : (w line : List ℕ) → 128 < length line → reply w line ≡ refusal w

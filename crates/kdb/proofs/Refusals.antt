@@ -24,6 +24,7 @@ use Rattle.kdb.specs.Demands.{keyed, goodPoint, fitting, endsOf, headed,
 use Rattle.kdb.proofs.Lists.{and-l, and-r, and-i, same-refl, In, is-true, of-true, tally-imp, length-upFrom}
 use Rattle.kdb.proofs.Stands.{Stands}
 use Rattle.kdb.proofs.Pool.{length-iff, header-iff, sound-iff, Sound-stands}
+use Rattle.kdb.proofs.Walk.{walk-find}
 use Rattle.kdb.proofs.Print.{print-length, print-word}
 use Rattle.kdb.proofs.Format.{formatted-is}
 use Rattle.kdb.proofs.Bad.{find-six, find-eight, find-done, find-located, list-six, list-done, list-told}
@@ -32,7 +33,7 @@ use Rattle.kdb.proofs.Wanting.{ample, wanting}
 use Rattle.kdb.proofs.Reading.{Answers, find-rootless, find-answers}
 use Rattle.kdb.proofs.Calls.{done, goes-on, judge-both, judge-past, refusal-keeps, check-still, find-still, list-still}
 use Rattle.kdb.proofs.Answers.{one-located}
-use Rattle.kdb.proofs.Demands.{big, Passed, passed-within, place-placing, place-done, remove-steps}
+use Rattle.kdb.proofs.Demands.{big, Passed, passed-within, place-placing, place-done, remove-steps, long-one}
 
 -- no test of these gives refusal n
 abbrev avoids : ℕ → List Test → Bool
@@ -350,10 +351,6 @@ module _ (w : List ℕ) where
   find-is : (p : List ℕ) → T (begins w (find p)) → outcome w (find p) ≡ finding (findWalk L w p) (lent w (find p))
   find-is p h = goes-on w (find p) h
 
-  -- the pages read are those of the walk
-  find-walked : (p : List ℕ) → T (begins w (find p)) → findWalk L w p .read ≡ walkOf w (find p)
-  find-walked p h = ap (λ b. cond b (findWalk L w p .read) []) (sym (is-true (begins w (find p)) h))
-
   six-find : (p : List ℕ) → Taken w (find p) → (outcome w (find p) .number ≡ 6) ↔ T (findStops L w p)
   six-find p h = subst (λ o. (o .number ≡ 6) ↔ T (findStops L w p)) (sym (find-is p (find-taken p h))) (find-six w p (lent w (find p)))
 
@@ -361,13 +358,13 @@ module _ (w : List ℕ) where
   eight-find p h =
       subst (λ o. (o .number ≡ 8) ↔ (T (not (findStops L w p)) × (tally (keyed p) (lastRecords w p) ≡ 0))) (sym (find-is p (find-taken p h)))
       (subst (λ l. (finding (findWalk L w p) (lent w (find p)) .number ≡ 8) ↔ (T (not (findStops L w p)) × (tally (keyed p) (recsIn (view L w (lastOr 0 l))) ≡ 0)))
-      (find-walked p (find-taken p h)) (find-eight w p (lent w (find p))))
+      (sym (walk-find w p (find-taken p h))) (find-eight w p (lent w (find p))))
 
   done-find : (p : List ℕ) → Taken w (find p) → (outcome w (find p) .number ≡ 0) ↔ (T (not (findStops L w p)) × (1 ≤ tally (keyed p) (lastRecords w p)))
   done-find p h =
       subst (λ o. (o .number ≡ 0) ↔ (T (not (findStops L w p)) × (1 ≤ tally (keyed p) (lastRecords w p)))) (sym (find-is p (find-taken p h)))
       (subst (λ l. (finding (findWalk L w p) (lent w (find p)) .number ≡ 0) ↔ (T (not (findStops L w p)) × (1 ≤ tally (keyed p) (recsIn (view L w (lastOr 0 l))))))
-      (find-walked p (find-taken p h)) (find-done w p (lent w (find p))))
+      (sym (walk-find w p (find-taken p h))) (find-done w p (lent w (find p))))
 
   located : (p : List ℕ) → outcome w (find p) .number ≡ 0
       → outcome w (find p) .values ≡ map (λ r. r .loc) (take 1 (only (keyed p) (lastRecords w p))) ++ (length (walkOf w (find p)) ∷ [])
@@ -375,7 +372,7 @@ module _ (w : List ℕ) where
       let d = done w (find p) z in
       ap (λ o. o .values) (d .1)
       ∙ subst (λ l. finding (findWalk L w p) (lent w (find p)) .values ≡ map (λ r. r .loc) (take 1 (only (keyed p) (recsIn (view L w (lastOr 0 l))))) ++ (length l ∷ []))
-      (find-walked p (d .0)) (find-located w p (lent w (find p)) (sym (ap (λ o. o .number) (d .1)) ∙ z))
+      (sym (walk-find w p (d .0))) (find-located w p (lent w (find p)) (sym (ap (λ o. o .number) (d .1)) ∙ z))
 
   good-pages : {c : Call} → Taken w c → 1 ≤ pagesIn L w
   good-pages h = omega (arith, h .headed .long .least)
@@ -395,7 +392,7 @@ module _ (w : List ℕ) where
       × (outcome w (list v answer) .after .answer ≡ slotted answer (map (λ r. r .loc) (listRecords L w (windowOf (domains w) v))))
   listed v answer z =
       let d = done w (list v answer) z in
-      let n : 1 ≤ pagesIn L w = omega (arith, length-iff L w .0 (and-l (goodLength L w) _ (d .0))) in
+      let n = long-one w (and-l (goodLength L w) _ (d .0)) in
       let t = list-told w n (windowOf (domains w) v) answer (sym (ap (λ o. o .number) (d .1)) ∙ z) in
       (ap (λ o. o .values) (d .1) ∙ t .0, ap (λ o. o .after .answer) (d .1) ∙ t .1)
 

@@ -16,7 +16,7 @@ use Rattle.kdb.specs.Pool.{domains, rootAt, levelsAt, pagesIn, view, goo
 use Rattle.kdb.specs.Walk.{Spot, Tour, still, follow, through, goodPoints, goodRegions, tour, bounded, listWalk, End, rootless, bad, absent, here, Search, ends, into, seek, findWalk, spots, spotOf}
 use Rattle.kdb.proofs.Calls.{done}
 use Rattle.kdb.proofs.Pool.{header-iff}
-use Rattle.kdb.specs.Calls.{Call, format, check, place, remove, find, list, Buffers, finding, listing, filled, lent, outcome, windowOf, begins, walkOf}
+use Rattle.kdb.specs.Calls.{L, Call, format, check, place, remove, find, list, Buffers, finding, listing, filled, lent, outcome, windowOf, begins, walkOf}
 use Rattle.kdb.proofs.Lists.{and-l, and-r, and-i, cases, is-true, every-append, every-take, every-many, some-many, same-eq, each-only, each-append}
 
 -- the length of a walk into entries
@@ -138,6 +138,13 @@ walk-silent w (remove p) e = refl
 walk-silent w (find p) e = rw e
 walk-silent w (list v answer) e = rw e
 
+-- the walk of a call that begins
+pub walk-find : (w p : List ℕ) → T (begins w (find p)) → walkOf w (find p) ≡ findWalk L w p .read
+walk-find w p h = ap (λ b. cond b (findWalk L w p .read) []) (is-true (begins w (find p)) h)
+
+pub walk-list : (w v slots : List ℕ) → T (begins w (list v slots)) → walkOf w (list v slots) ≡ listWalk L w (windowOf (domains w) v) .read
+walk-list w v slots h = ap (λ b. cond b (listWalk L w (windowOf (domains w) v) .read) []) (is-true (begins w (list v slots)) h)
+
 -- a find that is done has found a record, and returns its location and the walk's length
 pub find-returns : (w p : List ℕ) → outcome w (find p) .number ≡ 0
     → (x : Spot) × (findWalk 32 w p .end ≡ here x) × (outcome w (find p) .values ≡ x .rec .loc ∷ length (walkOf w (find p)) ∷ [])
@@ -147,7 +154,7 @@ find-returns w p z =
     let g = findWalk 32 w p in
     let told : finding g (lent w (find p)) .number ≡ 0 = sym (ap (λ o. o .number) (d .1)) ∙ z in
     let r = go (g .read) (g .end) (lent w (find p)) told in
-    (r .0, r .1, ap (λ o. o .values) (d .1) ∙ (r .2 ∙ ap (λ b. r .0 .rec .loc ∷ length (cond b (g .read) []) ∷ []) (sym (is-true (begins w (find p)) (d .0)))))
+    (r .0, r .1, ap (λ o. o .values) (d .1) ∙ (r .2 ∙ ap (λ l. r .0 .rec .loc ∷ length l ∷ []) (sym (walk-find w p (d .0)))))
   where
     go : (read : List ℕ) (e : End) (b : Buffers) → finding (ends read e) b .number ≡ 0
         → (x : Spot) × (e ≡ here x) × (finding (ends read e) b .values ≡ x .rec .loc ∷ length read ∷ [])
@@ -168,7 +175,7 @@ list-returns w v answer z =
     let told : listing t w answer .number ≡ 0 = sym (ap (λ o. o .number) (d .1)) ∙ z in
     let r = go (t .read) (t .bad) (t .found) told in (
       r .0,
-      ap (λ o. o .values) (d .1) ∙ (r .1 ∙ ap (λ b. length (t .found) ∷ length (cond b (t .read) []) ∷ []) (sym (is-true (begins w (list v answer)) (d .0)))),
+      ap (λ o. o .values) (d .1) ∙ (r .1 ∙ ap (λ l. length (t .found) ∷ length l ∷ []) (sym (walk-list w v answer (d .0)))),
       ap (λ o. o .after .answer) (d .1) ∙ r .2,
     )
   where

@@ -12,7 +12,7 @@ use borrow.Author.Tests.{lt-leb, ne-eqb}
 use Rattle.kdb.specs.Pool.{goodLength, domains}
 use Rattle.kdb.specs.Walk.{End, rootless, bad, absent, here, findWalk, listWalk}
 use Rattle.kdb.specs.Calls.{L, Call, format, place, remove, find, list, Buffers, lent, Outcome, gives, refuses, Test, _or_, unless, judge, goodDomains, windowOf, removing, finding, tests, core, outcome, Promise}
-use Rattle.kdb.specs.Frames.{wordsOf, newOf, placeOf, slots, withWords, framed, Frame, new, call, unknown, Reply, answerText, renewed, answered, obey}
+use Rattle.kdb.specs.Frames.{wordsOf, newOf, placeOf, slots, withWords, framed, Frame, new, call, Reply, answerText, renewed, answered, obey}
 use Rattle.kdb.proofs.Lists.{and-false, cases, cond-case}
 use Rattle.kdb.proofs.Calls.{refusal-keeps}
 use Rattle.kdb.proofs.Frames.{format-length, place-work}
@@ -122,14 +122,7 @@ list-replied f words pool v full slots shown {number} {count} {first} q s l m fi
     replied (take shown full) (ap answered (q .kept)) s (laid-same words pool ∙ ap (sets pool 0) old) (sym (length-take-le words pool fits) ∙ ap length old)
     (ap (λ (b : Buffers). take first (b .answer)) (listed-after f w full) ∙ some) t r h
 
--- a format's frame: 3 bytes, or none
-pub new-other : (bytes : List ℕ) → (length bytes ≡ 3 → ⊥) → newOf bytes ≡ unknown
-new-other [] h = refl
-new-other (k ∷ []) h = refl
-new-other (k ∷ a ∷ []) h = refl
-new-other (k ∷ a ∷ b ∷ []) h = absurd (h refl)
-new-other (k ∷ a ∷ b ∷ c ∷ bytes) h = refl
-
+-- a format's frame of 3 bytes
 pub new-three : (bytes : List ℕ) → length bytes ≡ 3 → newOf bytes ≡ new (getD bytes 0 0) (256 * getD bytes 1 0 + getD bytes 2 0)
 new-three [] h = absurd (omega arith)
 new-three (k ∷ []) h = absurd (omega arith)

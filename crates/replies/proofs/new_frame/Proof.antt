@@ -1,5 +1,6 @@
 -- `replies::new_frame` meets its contract: no frame, too many pages, and format's outcome, by which the pool is the new one or the earlier.
-use Rattle.replies.proofs.Answers.{new-other, new-three, new-big, new-done, new-refused}
+use Rattle.kdb.proofs.Frames.{new-other}
+use Rattle.replies.proofs.Answers.{new-three, new-big, new-done, new-refused}
 use Rattle.replies.proofs.Replies.{unframed}
 use lib.Seq.{length-take-le}
 use Prim.Native.Nat.{_+_, _*_}
