@@ -1,5 +1,5 @@
 // Robinson's experiments (CMU-CS-81-106, section 6) at 32 words a page, and again at his own page sizes, beside his figures.
-// Pages and words are those of bench/tree.hpp. Where the library can place, every pool of 32-word pages is compared with the
+// Pages and words are those of bench/tree.hpp; every pool of 32-word pages is compared with the
 // library's, word for word.
 #include "library.hpp"
 

@@ -1,6 +1,6 @@
 // Robinson's tree, grown in memory by the steps of document 01 with any R and P, the pages that each placing touches counted.
-// It is there to count (bench/robinson.cpp), to say how many records a pool takes, and to print a filled pool. Where the
-// library can place, its pool is compared with this tree's, word for word.
+// It is there to count (bench/robinson.cpp), to say how many records a pool takes, and to print a filled pool. The
+// library's filled pool is compared with this tree's, word for word.
 #pragma once
 #include "data.hpp"
 #include <algorithm>

@@ -26,11 +26,10 @@ use Rattle.kdb.proofs.Words.{keys-by, page-rest, kind, shape, seen}
 use Rattle.words.specs.Words.{wordAt, Paged, allZero}
 use Rattle.words.proofs.Laws.{pages}
 use Rattle.words.proofs.Loops.{every-by}
-use Rattle.cover.specs.Boxes.{regionsIn}
+use Rattle.cover.specs.Boxes.{regionsIn, Row}
 use Rattle.audit.specs.Tests.{keysIn, alone, distinctOf, headOf, Held, Numbered}
 use Rattle.audit.specs.Walk.{soundPoints, soundRegions}
 use Rattle.audit.proofs.Laying.{recs-words, ents-words, layout-iff}
-use Rattle.audit.proofs.Turns.{Room}
 use Rattle.audit.proofs.Here.{points-say, say-points, regions-say, say-regions}
 
 -- keys in words are the keys of the records
@@ -378,7 +377,7 @@ module _ (w : List ℕ) (n k j : ℕ) (v : List ℕ) (b : ℕ) (h : Held w n k v
 
   -- the c entries of a region page, from its word 4 on
   pub record Entries (c : ℕ) : Type 0 where
-    pub room : Room (2 * k + 1) c 0 (L * j + 4) (L * j + L)
+    pub room : Row w (2 * k + 1) (L * j + 4) (c - 0)
     pub few : c ≤ L
     pub are : readEnts k c (drop (L * j + 4) w) ≡ entsIn (view L w j)
 
@@ -389,7 +388,7 @@ module _ (w : List ℕ) (n k j : ℕ) (v : List ℕ) (b : ℕ) (h : Held w n k v
       let m : c ≤ regionsPer L k = rw (q, h .domains) (x .room) in
       let z = sub-zero c in
       record {
-        room = record { left = rw z (omega arith) };
+        room = record { wide = omega (arith, h .most); near = omega (arith, h .pool); ends = rw z (omega (arith, h .pool, i)) };
         few = omega (arith, div-le-self (L - 4) (2 * k + 1));
         are = rw (q, h .domains) (sym (x .ents));
       }

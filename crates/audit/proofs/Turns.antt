@@ -4,16 +4,14 @@ use mathlib.Core.List.{List, [], _∷_}
 use mathlib.Core.Path.{_≡_, refl, sym, ap, _∙_}
 use Prim.Native.Nat.{ℕ, zero, suc, _+_, _-_, _*_, _<_, _≤_}
 use native.Mathlib.Omega.{arith}
-use native.Mathlib.Nat.{suc-mul}
 use lib.Dec.{ltb, eqb}
 use lib.ListN.{length, drop, getD, set}
 use borrow.Author.Tests.{eq-eqb, ne-eqb, lt-ltb, le-ltb, ltb-true, eqb-false, not-true}
 use Rattle.kdb.specs.Lists.{every}
 use Rattle.kdb.specs.Box.{Box, whole}
 use Rattle.kdb.specs.Pages.{Ent, recsIn, entsIn, readEnts, page}
-use Rattle.kdb.specs.Pool.{domains, rootAt, levelsAt, countAt, view, goodLength, goodHeader}
-use Rattle.kdb.specs.Print.{sound}
-use Rattle.kdb.specs.Calls.{L, check, lent, refuses, outcome, Promise}
+use Rattle.kdb.specs.Pool.{domains, rootAt, levelsAt, countAt, view}
+use Rattle.kdb.specs.Calls.{L}
 use Rattle.kdb.proofs.Lists.{and-t}
 use Rattle.kdb.proofs.Words.{entAt, ent-turn}
 use Rattle.words.specs.Words.{Paged}
@@ -22,16 +20,6 @@ use Rattle.cover.specs.Boxes.{regionIn}
 use Rattle.audit.specs.declared.Seen.{Seen}
 use Rattle.audit.specs.Tests.{freshOf, Numbered}
 use Rattle.audit.specs.Walk.{Way, spoilt, calm, through, soundPoints, soundRegions, fresh, leafOf, pageOf, walkOf, freeOf, restOf, unmarked, audited}
-
--- c − e entries of d words from a on, up to m
-pub record Room (d c e a m : ℕ) : Type 0 where
-  pub left : a + (c - e) * d ≤ m
-
-pub room-here : (d c e a m : ℕ) → Room d c e a m → e < c → a + d ≤ m
-room-here d c e a m r h = let q : c - e ≡ suc (c - (e + 1)) = omega arith in omega (arith, suc-mul (c - (e + 1)) d, rw q at (r .left))
-
-pub room-next : (d c e a m : ℕ) → Room d c e a m → e < c → Room d c (e + 1) (a + d) m
-room-next d c e a m r h = let q : c - e ≡ suc (c - (e + 1)) = omega arith in record { left = omega (arith, suc-mul (c - (e + 1)) d, rw q at (r .left)) }
 
 module _ (step : Ent → Seen → List ℕ → Way) (w : List ℕ) (k c e a : ℕ) (s : Seen) (m : List ℕ) (v : Way) where
   pub entries-end : through step (readEnts k (c - e) (drop a w)) s m ≡ v → c ≤ e → (s, m) ≡ v
@@ -138,21 +126,3 @@ module _ (w : List ℕ) (t : Way) (e : t ≡ walkOf L w unmarked) where
       go true b c h = absurd (let z : _≡_ {A = ℕ} 0 1 = cc in omega arith)
       go false true c h = refl
       go false false c h = absurd (let z : _≡_ {A = ℕ} 0 1 = cc in omega arith)
-
--- what check answers
-module _ (w : List ℕ) where
-  pub check-length : goodLength L w ≡ false → Promise w check (refuses 1 (lent w check))
-  unfolding outcome
-  check-length a = record { kept = rw a }
-
-  pub check-header : goodLength L w ≡ true → goodHeader L w ≡ false → Promise w check (refuses 6 (lent w check))
-  unfolding outcome
-  check-header a b = record { kept = rw (a, b) }
-
-  pub check-unsound : goodLength L w ≡ true → goodHeader L w ≡ true → sound L w ≡ false → Promise w check (refuses 6 (lent w check))
-  unfolding outcome
-  check-unsound a b c = record { kept = rw (a, b, c) }
-
-  pub check-sound : goodLength L w ≡ true → goodHeader L w ≡ true → sound L w ≡ true → Promise w check (refuses 0 (lent w check))
-  unfolding outcome
-  check-sound a b c = record { kept = rw (a, b, c) }

@@ -1,27 +1,23 @@
 // The audit of a pool: whether it is sound, for every pool. One walk from the root with a mark for each page met, so that no page is looked
 // at twice; then the pages not met are all zero.
-use cover::high;
-use cover::low;
 use cover::tiled;
 use words::get;
-use words::good_header;
-use words::page_count;
+use words::lower_end;
 use words::points_per;
 use words::put;
 use words::read;
 use words::regions_per;
+use words::upper_end;
 use words::zeros;
 ghost use mathlib.Core.Path.{_≡_};
 ghost use mathlib.Core.Bool.{true, false, cond};
-ghost use mathlib.Core.List.{[]};
-ghost use Prim.Native.Nat.{ℕ, _+_, _*_, _-_, _≤_, _<_, _^_};
-ghost use lib.Dec.{T};
-ghost use lib.ListN.{length, getD, set};
+ghost use Prim.Native.Nat.{_+_, _*_, _-_, _≤_, _<_, _^_};
+ghost use lib.ListN.{length, getD};
 ghost use Rattle.kdb.specs.Lists.{every, same};
 ghost use Rattle.kdb.specs.Box.{within};
 ghost use Rattle.kdb.specs.Pool.{goodHeader};
 ghost use Rattle.kdb.specs.Print.{sound};
-ghost use Rattle.kdb.specs.Calls.{L, Call, lent, refuses, Promise};
+ghost use Rattle.kdb.specs.Calls.{L};
 ghost use Rattle.words.specs.Words.{Paged, RegionIn};
 ghost use Rattle.cover.specs.Boxes.{boxAt, regionIn, Row};
 ghost use Rattle.audit.specs.Tests.{keyIn, keysIn, columnIn, alone, distinctOf, headOf, freshOf, Held, Numbered, PointIn};
@@ -55,7 +51,15 @@ fn all_hold(p: &[u32], k: usize, at: usize, count: usize, q: &[u32], b: usize) -
 {
     let mut d: usize = 0;
     while d < k {
-        if !side_holds(p, k, at, count, d, low(q, k, b, d), high(q, k, b, d)) {
+        if !side_holds(
+            p,
+            k,
+            at,
+            count,
+            d,
+            lower_end(q, k, b, d),
+            upper_end(q, k, b, d),
+        ) {
             return false;
         }
         d += 1;
@@ -292,18 +296,4 @@ pub fn audit(p: &[u32], n: usize) -> bool
         return false;
     }
     rest(p, n, &met)
-}
-
-// The number that check answers: 1 for a pool of another length, 6 for a bad header or a pool that is not sound, 0.
-pub fn check(pool: &[u32]) -> u32
-    ensures { λ r. ⌜ Promise (now (pool .entry)) Call.check (refuses r (lent (now (pool .entry)) Call.check)) ⌝ }
-{
-    let n = page_count(pool);
-    if n == 0 {
-        return 1;
-    }
-    if !good_header(pool, n) {
-        return 6;
-    }
-    if audit(pool, n) { 0 } else { 6 }
 }

@@ -1,8 +1,10 @@
 // Tests of regions, windows and keys on the words of a pool, each a loop over the domains.
+use words::lower_end;
 use words::point_at;
 use words::read;
+use words::upper_end;
 ghost use mathlib.Core.Path.{_≡_};
-ghost use Prim.Native.Nat.{ℕ, _+_, _*_, _≤_, _<_, _^_, max};
+ghost use Prim.Native.Nat.{_+_, _*_, _≤_, _<_, max};
 ghost use lib.ListN.{length};
 ghost use Rattle.kdb.specs.Lists.{same};
 ghost use Rattle.kdb.specs.Box.{within, inWindow, meets};
@@ -24,7 +26,7 @@ pub fn point_in(pool: &[u32], k: usize, at: usize, point: &[u32]) -> bool
     let mut d: usize = 0;
     while d < k {
         let key = read(point, d);
-        ok = ok & ((read(pool, at + d) <= key) & (key < read(pool, at + k + d)));
+        ok = ok & ((lower_end(pool, k, at, d) <= key) & (key < upper_end(pool, k, at, d)));
         d += 1;
     }
     ok
@@ -38,8 +40,8 @@ pub fn meets_window(pool: &[u32], k: usize, at: usize, window: &[u32]) -> bool
     let mut ok = true;
     let mut d: usize = 0;
     while d < k {
-        let low = larger(read(pool, at + d), read(window, d));
-        ok = ok & ((low < read(pool, at + k + d)) & (low <= read(window, k + d)));
+        let low = larger(lower_end(pool, k, at, d), read(window, d));
+        ok = ok & ((low < upper_end(pool, k, at, d)) & (low <= read(window, k + d)));
         d += 1;
     }
     ok

@@ -1,7 +1,7 @@
 -- The tests of a page's entries, with the count of their keys behind them, are the test of a tiling.
 use mathlib.Core.Bool.{Bool, true, false, _&&_, not}
 use mathlib.Core.List.{List, [], _∷_}
-use mathlib.Core.Path.{_≡_, refl, sym, ap₂, _∙_}
+use mathlib.Core.Path.{_≡_, refl, sym, ap₂, _∙_, subst}
 use Prim.Native.Nat.{_-_, _<_, _≤_, min, max}
 use native.Mathlib.Omega.{arith}
 use lib.Dec.{T, leb, ltb, eqb, leb→le, le→leb, ltb→lt, lt→ltb, eqb→eq, T-not}
@@ -12,7 +12,7 @@ use Rattle.kdb.specs.Box.{Side, Box, Key, within, solid}
 use Rattle.kdb.specs.Tiling.{holders, share, apart, covers, tiles}
 use Rattle.kdb.proofs.Lists.{and-l, and-r, and-i, bool, bool-eq, to-bit, of-bit, of-true, no-bit}
 use Rattle.kdb.proofs.Box.{within-i, within-e}
-use Rattle.kdb.proofs.Tiling.{low, low-in, covers-says, says-covers, tiles-iff, tiles-counted, counted-tiles}
+use Rattle.kdb.proofs.Tiling.{low, low-in, covers-says, says-covers, tiles-iff, tiles-counted, counted-tiles, solid-of, share-of}
 use Rattle.cover.specs.Boxes.{insideSide, insideOf, overlapSide, overlap, clearOf, fitting}
 use Rattle.cover.specs.Volume.{volumeOf, volumesOf}
 use Rattle.cover.proofs.Grid.{Under, volumes-most, volumes-each, each-volumes}
@@ -158,16 +158,7 @@ fit-under r (e ∷ es) t =
     (inside-under e r (and-l (insideOf e r) _ h), fit-under r es (and-r (insideOf e r && clearOf e es) _ t))
 
 overlap-of : (b c : Box) (p : Key) → T (within b p) → T (within c p) → T (overlap b c)
-overlap-of [] [] p h g = tt
-overlap-of [] (z ∷ c) [] h g = g
-overlap-of [] (z ∷ c) (x ∷ p) h g = h
-overlap-of (s ∷ b) [] [] h g = h
-overlap-of (s ∷ b) [] (x ∷ p) h g = g
-overlap-of (s ∷ b) (z ∷ c) [] h g = absurd h
-overlap-of (s ∷ b) (z ∷ c) (x ∷ p) h g =
-    let i = within-e s x b p h in
-    let j = within-e z x c p g in
-    and-i (overlapSide s z) _ (and-i (ltb (s .lo) (z .hi)) _ (lt→ltb (s .lo) (z .hi) (omega arith)) (lt→ltb (z .lo) (s .hi) (omega arith))) (overlap-of b c p (i .2) (j .2))
+overlap-of b c p h g = subst T (sym (overlap-share b c (solid-of b p h) (solid-of c p g))) (share-of b c p h g)
 
 clear-none : (e : Box) (es : List Box) (p : Key) → T (clearOf e es) → T (within e p) → holders es p ≡ 0
 clear-none e [] p t h = refl

@@ -1,43 +1,27 @@
 // The exact test that the regions of a page tile a region, for every arrangement: each not empty and inside, no two with a common key,
 // and as many keys together as the region has.
-use words::read;
+use words::lower_end;
+use words::upper_end;
 ghost use mathlib.Core.Path.{_≡_};
 ghost use mathlib.Core.Bool.{true, false};
-ghost use Prim.Native.Nat.{ℕ, _+_, _*_, _-_, _≤_, _<_, _^_};
+ghost use Prim.Native.Nat.{_+_, _*_, _-_, _≤_, _<_, _^_};
 ghost use lib.Dec.{T};
-ghost use lib.ListN.{getD};
 ghost use Rattle.kdb.specs.Box.{solid};
 ghost use Rattle.kdb.specs.Tiling.{tiles};
 ghost use Rattle.words.specs.Words.{RegionIn};
 ghost use Rattle.cover.specs.Boxes.{boxAt, boxesAt, insideOf, overlap, clearOf, fitting, Row, regionIn, regionsIn};
 ghost use Rattle.cover.specs.Volume.{value, volumeOf, Sides};
 
-// The lower end in domain i of the region at word a.
-pub fn low(p: &[u32], k: usize, a: usize, i: usize) -> usize
-    requires { ⌜ RegionIn (now p) k a × (i < k) ⌝ }
-    ensures { λ r. ⌜ (r ≡ getD (now (p .entry)) (a + i) 0) × (r < 2 ^ 32) ⌝ }
-{
-    read(p, a + i)
-}
-
-// The upper end in domain i of the region at word a.
-pub fn high(p: &[u32], k: usize, a: usize, i: usize) -> usize
-    requires { ⌜ RegionIn (now p) k a × (i < k) ⌝ }
-    ensures { λ r. ⌜ (r ≡ getD (now (p .entry)) (a + k + i) 0) × (r < 2 ^ 32) ⌝ }
-{
-    read(p, a + k + i)
-}
-
 // The region at word a of p is not empty and lies in the region at word b of q.
-pub fn inside(p: &[u32], a: usize, k: usize, q: &[u32], b: usize) -> bool
+fn inside(p: &[u32], a: usize, k: usize, q: &[u32], b: usize) -> bool
     requires { ⌜ RegionIn (now p) k a × RegionIn (now q) k b ⌝ }
     ensures { λ r. ⌜ r ≡ insideOf (boxAt (now (p .entry)) k a) (boxAt (now (q .entry)) k b) ⌝ }
 {
     let mut i: usize = 0;
     while i < k {
-        let x = low(p, k, a, i);
-        let y = high(p, k, a, i);
-        if !((x < y) & (low(q, k, b, i) <= x) & (y <= high(q, k, b, i))) {
+        let x = lower_end(p, k, a, i);
+        let y = upper_end(p, k, a, i);
+        if !((x < y) & (lower_end(q, k, b, i) <= x) & (y <= upper_end(q, k, b, i))) {
             return false;
         }
         i += 1;
@@ -46,13 +30,14 @@ pub fn inside(p: &[u32], a: usize, k: usize, q: &[u32], b: usize) -> bool
 }
 
 // The regions at words a and b, both not empty, share a key.
-pub fn share(p: &[u32], k: usize, a: usize, b: usize) -> bool
+fn share(p: &[u32], k: usize, a: usize, b: usize) -> bool
     requires { ⌜ RegionIn (now p) k a × RegionIn (now p) k b ⌝ }
     ensures { λ r. ⌜ r ≡ overlap (boxAt (now (p .entry)) k a) (boxAt (now (p .entry)) k b) ⌝ }
 {
     let mut i: usize = 0;
     while i < k {
-        if !((low(p, k, a, i) < high(p, k, b, i)) & (low(p, k, b, i) < high(p, k, a, i))) {
+        if !((lower_end(p, k, a, i) < upper_end(p, k, b, i))
+            & (lower_end(p, k, b, i) < upper_end(p, k, a, i))) {
             return false;
         }
         i += 1;
@@ -61,7 +46,7 @@ pub fn share(p: &[u32], k: usize, a: usize, b: usize) -> bool
 }
 
 // None of the `left` regions from word `at` on shares a key with the region at word a.
-pub fn clear_of(p: &[u32], k: usize, a: usize, at: usize, left: usize) -> bool
+fn clear_of(p: &[u32], k: usize, a: usize, at: usize, left: usize) -> bool
     requires { ⌜ RegionIn (now p) k a × Row (now p) (2 * k + 1) at left ⌝ }
     ensures { λ r. ⌜ r ≡ clearOf (boxAt (now (p .entry)) k a) (boxesAt left (now (p .entry)) k at) ⌝ }
 {
@@ -78,7 +63,7 @@ pub fn clear_of(p: &[u32], k: usize, a: usize, at: usize, left: usize) -> bool
 }
 
 // The `count` regions from word `at` on are not empty, lie in the region at word b of q, and share no key.
-pub fn fit(p: &[u32], k: usize, at: usize, count: usize, q: &[u32], b: usize) -> bool
+fn fit(p: &[u32], k: usize, at: usize, count: usize, q: &[u32], b: usize) -> bool
     requires { ⌜ Row (now p) (2 * k + 1) at count × RegionIn (now q) k b ⌝ }
     ensures { λ r. ⌜ r ≡ fitting (boxAt (now (q .entry)) k b) (boxesAt count (now (p .entry)) k at) ⌝ }
 {
@@ -138,13 +123,13 @@ fn plane(p: &[u32], k: usize, a: usize) -> usize
     requires { ⌜ RegionIn (now p) k a × (T (solid (boxAt (now p) k a)) × (1 ≤ k)) ⌝ }
     ensures { λ r. ⌜ Sides (now (p .entry)) k a (record { hi = 0; lo = r }) 2 ⌝ }
 {
-    let x = low(p, k, a, 0);
-    let first = high(p, k, a, 0) - x;
+    let x = lower_end(p, k, a, 0);
+    let first = upper_end(p, k, a, 0) - x;
     if k == 1 {
         return first;
     }
-    let y = low(p, k, a, 1);
-    first * (high(p, k, a, 1) - y)
+    let y = lower_end(p, k, a, 1);
+    first * (upper_end(p, k, a, 1) - y)
 }
 
 // How many keys the region at word a holds, which is not empty.
@@ -158,8 +143,8 @@ fn volume(p: &[u32], k: usize, a: usize) -> Amount
     };
     let mut i: usize = 2;
     while i < k {
-        let x = low(p, k, a, i);
-        v = times(v, high(p, k, a, i) - x);
+        let x = lower_end(p, k, a, i);
+        v = times(v, upper_end(p, k, a, i) - x);
         i += 1;
     }
     v

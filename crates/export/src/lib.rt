@@ -11,7 +11,7 @@ use index::format;
 use index::list;
 use index::place;
 use index::remove;
-ghost use mathlib.Core.List.{List, [], _∷_};
+ghost use mathlib.Core.List.{[], _∷_};
 ghost use mathlib.Core.Path.{_≡_};
 ghost use Rattle.kdb.specs.Calls.{format, check, place, remove, find, list, Promise};
 ghost use Rattle.index.specs.Answers.{alone, with, beside};

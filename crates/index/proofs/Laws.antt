@@ -1,29 +1,29 @@
 -- Each way through a public call is the outcome that the definition gives: the refusals in the table's order, then the walk.
 use mathlib.Core.Bool.{Bool, true, false, _||_, cond}
-use mathlib.Core.List.{List, [], _∷_, _++_, map}
-use mathlib.Core.Path.{_≡_, refl, sym, ap, _∙_}
-use Prim.Native.Nat.{ℕ, zero, suc, _+_, _-_, _*_, _<_, _≤_}
+use mathlib.Core.List.{List, [], _∷_}
+use mathlib.Core.Path.{_≡_, refl}
+use Prim.Native.Nat.{ℕ, suc, _-_, _*_, _≤_}
 use native.Mathlib.Omega.{arith}
 use native.Mathlib.Nat.{zero-add, sub-zero}
-use lib.Dec.{leb, ltb, eqb}
-use lib.ListN.{length, take, drop, getD, set, replicate, length-map, length-take, length-drop, take-append-drop, drop-of-length-le}
-use lib.Seq.{sets, sets-eq, set-out, take-all, length-take-le}
+use lib.Dec.{leb, ltb}
+use lib.ListN.{length, set, replicate, length-map}
+use lib.Seq.{sets}
 use borrow.Author.Tests.{eq-eqb, ne-eqb, le-leb, lt-leb, ltb-true, ltb-false}
-use Rattle.kdb.specs.Pool.{domains, pagesIn, goodLength, goodHeader}
-use Rattle.kdb.specs.Walk.{Spot, Tour, listWalk, End, rootless, bad, absent, here, Search, findWalk}
+use Rattle.kdb.specs.Pool.{domains, goodLength, goodHeader}
+use Rattle.kdb.specs.Walk.{Tour, listWalk, End, rootless, bad, absent, here, Search, findWalk}
 use Rattle.kdb.specs.Print.{sound}
-use Rattle.kdb.specs.Calls.{Promise, lent, judge, _or_, core, check, L, format, find, list, Outcome, gives, refuses, finite, goodDomains, formatted, windowOf, ordered, finding, filled, listing, outcome}
+use Rattle.kdb.specs.Calls.{Promise, check, L, format, find, list, gives, refuses, finite, goodDomains, formatted, windowOf, ordered, finding, listing, outcome}
 use Rattle.kdb.proofs.Lists.{and-false, sets-fill}
 use Rattle.words.specs.Words.{Paged, pageCount}
-use Rattle.words.proofs.Laws.{count-none, count-some, pages, cleared}
+use Rattle.words.proofs.Laws.{count-some, pages, cleared}
 use Rattle.walk.specs.declared.Sought.{Sought}
 use Rattle.walk.specs.declared.Sought.the-variants.{Here, Absent, Bad, NoRoot}
 use Rattle.walk.specs.declared.Tally.{Tally}
 use Rattle.walk.specs.Seek.{ended, told}
-use Rattle.walk.specs.List.{St, stopped, going, seen, locations, walked}
+use Rattle.walk.specs.List.{seen, locations, walked}
 use Rattle.index.specs.declared.Found.{Found}
 use Rattle.index.specs.declared.Found.the-variants as finds
-use Rattle.index.specs.Answers.{alone, with, foundAs, listedAs}
+use Rattle.index.specs.Answers.{alone, with, foundAs}
 
 -- the first two tests of a call that reads
 pub record Top (w : List ℕ) (n : ℕ) : Type 0 where
@@ -56,19 +56,23 @@ formats w n k g =
     go : (l m : ℕ) → l ≡ suc (suc m) → set (set (replicate l 0) 0 k) 1 n ≡ k ∷ n ∷ replicate m 0
     go l m e = rw e
 
--- check: its number is 0, 1 or 6
-pub check-as : (w : List ℕ) (r m : ℕ) → r ≡ m → Promise w check (refuses r (lent w check)) → Promise w check (refuses m (alone w))
-check-as w r m e p = record { kept = ap (λ i. refuses i (alone w)) (sym e) ∙ p .kept }
+-- check
+module _ (w : List ℕ) where
+  pub check-length : goodLength L w ≡ false → Promise w check (refuses 1 (alone w))
+  unfolding outcome
+  check-length a = record { kept = rw a }
 
-pub check-six : (w : List ℕ) (r : ℕ) → (r ≡ 0 → ⊥) → (r ≡ 1 → ⊥) → Promise w check (refuses r (lent w check)) → r ≡ 6
-unfolding outcome
-check-six w r z o p = go (goodLength L w) (goodHeader L w) (sound L w) (ap (λ x. x .number) (p .kept))
-  where
-    go : (a b c : Bool) → r ≡ judge ((a or 1) ∷ (b or 6) ∷ (c or 6) ∷ []) (lent w check) (core w check) .number → r ≡ 6
-    go false b c e = absurd (o e)
-    go true false c e = e
-    go true true false e = e
-    go true true true e = absurd (z e)
+  pub check-header : goodLength L w ≡ true → goodHeader L w ≡ false → Promise w check (refuses 6 (alone w))
+  unfolding outcome
+  check-header a b = record { kept = rw (a, b) }
+
+  pub check-unsound : goodLength L w ≡ true → goodHeader L w ≡ true → sound L w ≡ false → Promise w check (refuses 6 (alone w))
+  unfolding outcome
+  check-unsound a b c = record { kept = rw (a, b, c) }
+
+  pub check-sound : goodLength L w ≡ true → goodHeader L w ≡ true → sound L w ≡ true → Promise w check (gives [] (alone w))
+  unfolding outcome
+  check-sound a b c = record { kept = rw (a, b, c) }
 
 -- find
 module _ (w p : List ℕ) where

@@ -14,7 +14,7 @@ use words::page_count;
 use words::put;
 ghost use mathlib.Core.Path.{_≡_};
 ghost use mathlib.Core.Bool.{cond};
-ghost use Prim.Native.Nat.{ℕ, _*_};
+ghost use Prim.Native.Nat.{_*_};
 ghost use lib.ListN.{length};
 ghost use Rattle.kdb.specs.Walk.{findWalk, listWalk};
 ghost use Rattle.kdb.specs.Calls.{L, format, check, place, remove, find, list, windowOf, listing, present, Promise};
@@ -99,14 +99,18 @@ pub fn format(pool: &mut [u32], k: usize) -> Formatted
 pub fn check(pool: &[u32]) -> Checked
     ensures { λ r. ⌜ Promise (now (pool .entry)) check (checkedAs r (now (pool .entry))) ⌝ }
 {
-    let number = audit::check(pool);
-    if number == 0 {
-        return Checked::Sound;
-    }
-    if number == 1 {
+    let n = page_count(pool);
+    if n == 0 {
         return Checked::NotPages;
     }
-    Checked::NotSound
+    if !good_header(pool, n) {
+        return Checked::NotSound;
+    }
+    if audit(pool, n) {
+        Checked::Sound
+    } else {
+        Checked::NotSound
+    }
 }
 
 // Whether the search for the point ends at its record.

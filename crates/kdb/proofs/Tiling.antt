@@ -168,7 +168,7 @@ says-covers (c ∷ cs) b f =
     elim (which c cs p (f p (i .0))) [ inl y ↦ absurd (T-not (within c p) (i .1) y) | inr j ↦ j ]))
 
 -- two regions share a key
-share-of : (b c : Box) (p : Key) → T (within b p) → T (within c p) → T (share b c)
+pub share-of : (b c : Box) (p : Key) → T (within b p) → T (within c p) → T (share b c)
 share-of [] [] p h k = tt
 share-of [] (z ∷ c) [] h k = k
 share-of [] (z ∷ c) (x ∷ p) h k = h

@@ -1,8 +1,8 @@
 // Digits, bytes and words of a frame's text: reading a line, and writing an answer.
 ghost use mathlib.Core.Path.{_≡_};
 ghost use mathlib.Core.Bool.{cond};
-ghost use mathlib.Core.List.{List, [], _∷_, _++_};
-ghost use Prim.Native.Nat.{ℕ, _+_, _*_, _≤_, _<_, _^_};
+ghost use mathlib.Core.List.{[]};
+ghost use Prim.Native.Nat.{_+_, _*_, _≤_, _<_, _^_};
 ghost use lib.ListN.{length, getD, set};
 ghost use Rattle.kdb.specs.Lists.{gather};
 ghost use Rattle.kdb.specs.Frames.{digit, bytesOf, wordsOf, digitOf, hex};

@@ -4,14 +4,14 @@ use boxes::meets_window;
 use boxes::point_in;
 use boxes::same_keys;
 use words::get;
-use words::point_at;
+use words::point_location;
 use words::points_per;
 use words::put;
 use words::read;
 use words::regions_per;
 ghost use mathlib.Core.Path.{_≡_};
-ghost use mathlib.Core.Bool.{Bool, true, false, _&&_, cond};
-ghost use Prim.Native.Nat.{ℕ, _+_, _*_, _-_, _≤_, _<_, _^_};
+ghost use mathlib.Core.Bool.{true, false, _&&_, cond};
+ghost use Prim.Native.Nat.{_+_, _*_, _-_, _≤_, _<_, _^_};
 ghost use lib.Dec.{leb, ltb};
 ghost use lib.ListN.{length, take, drop, set};
 ghost use Rattle.kdb.specs.Lists.{bit};
@@ -96,7 +96,7 @@ fn record_for(pool: &[u32], k: usize, point: &[u32], j: usize, reads: usize) -> 
     let mut e: usize = 0;
     while e < count {
         if same_keys(pool, k, j, e, point) {
-            return Sought::Here(j, e, read(pool, point_at(k, j, e) + k), reads);
+            return Sought::Here(j, e, point_location(pool, k, j, e), reads);
         }
         e += 1;
     }
@@ -217,7 +217,7 @@ fn visit(
         × ((now (answer .exit) ≡ cond (inWindow (windowOf k (now (window .entry))) (keysOf k (now (pool .entry)) j slot)) (set (now (answer .entry)) total (pointLocation (now (pool .entry)) k j slot)) (now (answer .entry))) × (r ≤ total + 1)) ⌝ }
 {
     let held = in_window(pool, k, j, slot, window);
-    let location = read(pool, point_at(k, j, slot) + k);
+    let location = point_location(pool, k, j, slot);
     let old = get(answer, total);
     put(answer, total, either(held, location, old));
     total + one(held)

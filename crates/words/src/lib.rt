@@ -1,12 +1,11 @@
 // Words of a lent pool: what is read and written of a page, and nothing of the tree.
 ghost use mathlib.Core.Path.{_≡_};
-ghost use mathlib.Core.List.{List, [], _∷_};
-ghost use Prim.Native.Nat.{ℕ, _+_, _*_, _-_, _≤_, _<_, _^_, min};
+ghost use Prim.Native.Nat.{_+_, _*_, _-_, _≤_, _<_, _^_, min};
 ghost use lib.ListN.{length, getD, set, replicate};
 ghost use lib.Seq.{sets};
 ghost use Rattle.kdb.specs.Pool.{goodHeader};
 ghost use Rattle.kdb.specs.Calls.{L, finite};
-ghost use Rattle.words.specs.Words.{wordAt, pageCount, Paged, capacityOf, pointAt, pointKey, pointLocation, lowestFree, allZero};
+ghost use Rattle.words.specs.Words.{wordAt, pageCount, Paged, capacityOf, pointAt, pointLocation, lowestFree, allZero, RegionIn, RecordIn};
 
 // Regions and points a page, by K from 1 to 4.
 const CAPACITIES: [[u32; 4]; 2] = [[9, 5, 4, 3], [14, 9, 7, 5]];
@@ -149,44 +148,28 @@ pub fn point_at(k: usize, j: usize, slot: usize) -> usize
     32 * j + 4 + slot * (k + 1)
 }
 
-// The key in domain d of the record in a slot of point page j.
-pub fn point_key(pool: &[u32], k: usize, j: usize, slot: usize, d: usize) -> usize
-    requires { ⌜ (k ≤ 4) × ((j < 2 ^ 32) × ((slot < 2 ^ 32) × (d ≤ 4))) ⌝ }
-    ensures { λ r. ⌜ (r ≡ pointKey (now (pool .entry)) k j slot d) × (r < 2 ^ 32) ⌝ }
-{
-    get(pool, point_at(k, j, slot) + d)
-}
-
 // The location of the record in a slot of point page j.
 pub fn point_location(pool: &[u32], k: usize, j: usize, slot: usize) -> usize
-    requires { ⌜ (k ≤ 4) × ((j < 2 ^ 32) × (slot < 2 ^ 32)) ⌝ }
+    requires { ⌜ RecordIn (now pool) k j slot ⌝ }
     ensures { λ r. ⌜ (r ≡ pointLocation (now (pool .entry)) k j slot) × (r < 2 ^ 32) ⌝ }
 {
-    get(pool, point_at(k, j, slot) + k)
+    read(pool, point_at(k, j, slot) + k)
 }
 
-// The lower end in domain d of the region entry at word `at`.
-pub fn lower_end(pool: &[u32], at: usize, d: usize) -> usize
-    requires { ⌜ (at < 2 ^ 40) × (d ≤ 4) ⌝ }
+// The lower end in domain d of the region at word `at`.
+pub fn lower_end(pool: &[u32], k: usize, at: usize, d: usize) -> usize
+    requires { ⌜ RegionIn (now pool) k at × (d < k) ⌝ }
     ensures { λ r. ⌜ (r ≡ getD (now (pool .entry)) (at + d) 0) × (r < 2 ^ 32) ⌝ }
 {
-    get(pool, at + d)
+    read(pool, at + d)
 }
 
-// The upper end in domain d of the region entry at word `at`.
+// The upper end in domain d of the region at word `at`.
 pub fn upper_end(pool: &[u32], k: usize, at: usize, d: usize) -> usize
-    requires { ⌜ (k ≤ 4) × ((at < 2 ^ 40) × (d ≤ 4)) ⌝ }
+    requires { ⌜ RegionIn (now pool) k at × (d < k) ⌝ }
     ensures { λ r. ⌜ (r ≡ getD (now (pool .entry)) (at + k + d) 0) × (r < 2 ^ 32) ⌝ }
 {
-    get(pool, at + k + d)
-}
-
-// The child's number in the region entry at word `at`.
-pub fn child(pool: &[u32], k: usize, at: usize) -> usize
-    requires { ⌜ (k ≤ 4) × (at < 2 ^ 40) ⌝ }
-    ensures { λ r. ⌜ (r ≡ getD (now (pool .entry)) (at + 2 * k) 0) × (r < 2 ^ 32) ⌝ }
-{
-    get(pool, at + 2 * k)
+    read(pool, at + k + d)
 }
 
 // Copies a buffer over another, as far as that goes.

@@ -9,7 +9,9 @@ use Rattle.kdb.specs.Pool.{view}
 use Rattle.kdb.specs.Pages.{entsIn, readEnts}
 use Rattle.audit.specs.Walk.{through, pageOf}
 use Rattle.audit.proofs.OnePage.{entries-of}
-use Rattle.audit.proofs.Turns.{Room, room-here, room-next, fresh-number, entries-end, entries-next, page-bad, page-leaf, page-spoilt, page-entries}
+use Rattle.cover.specs.Boxes.{Row}
+use Rattle.cover.proofs.Loops.{row-next, row-first}
+use Rattle.audit.proofs.Turns.{fresh-number, entries-end, entries-next, page-bad, page-leaf, page-spoilt, page-entries}
 use borrow.Author.Needs.{needs}
 use native.Mathlib.Omega.{arith}
 use Prim.Native.Nat.{ℕ, _<_}
@@ -39,7 +41,7 @@ abbrev page-calls : ℕ → page-lts.Claims
 page-calls t = (fresh-reads.Asked, fresh-reads.Learnt, put-reads.Asked, put-reads.Learnt, leaf-reads.Asked, leaf-reads.Learnt, region-page-reads.Asked, region-page-reads.Learnt, read-reads.Asked, read-reads.Learnt, page-below t, page.Post)
 
 abbrev page-Inv-loop : page-lts.InvT-loop
-page-Inv-loop p n k level j q b met₀ left count u₀ at₀ e₀ met u at e = (e ≤ count) × Room (2 * k + 1) count e at (L * j + L) × (length met ≡ length met₀) × (through (λ x. pageOf L p (level - 1 - 1) (x .child) (x .box)) (readEnts k (count - e) (drop at p)) u met ≡ through (λ x. pageOf L p (level - 1 - 1) (x .child) (x .box)) (entsIn (view L p j)) u₀ met₀)
+page-Inv-loop p n k level j q b met₀ left count u₀ at₀ e₀ met u at e = (e ≤ count) × Row p (2 * k + 1) at (count - e) × (length met ≡ length met₀) × (through (λ x. pageOf L p (level - 1 - 1) (x .child) (x .box)) (readEnts k (count - e) (drop at p)) u met ≡ through (λ x. pageOf L p (level - 1 - 1) (x .child) (x .box)) (entsIn (view L p j)) u₀ met₀)
 
 abbrev page-μ-loop : page-lts.MeasureT-loop
 page-μ-loop p n k level j q b met₀ left count u₀ at₀ e₀ met u at e = count - e
@@ -121,7 +123,7 @@ page-mul-read-2 t c = let x = c .before .before .before .before .before .before 
     let h = c .before .before .before .before .before .before .before .before .before .before .before .before .before .before .before .before .pre .1 in
     let g = h .pool in
     let i = fresh-number (x .n) (x .j) (x .met .now) (x .s) (sym (c .before .before .before .before .before .before .before .before .before .before .before .fresh .ensures) ∙ not-false _ (c .before .before .before .before .before .before .before .before .before .before .if1 .left)) in
-    let r = room-here (2 * x .k + 1) _ _ (c .before .loop .at) (L * x .j + L) (c .before .loop .inv .1) (omega arith) in
+    let r = row-first (x .p .now) (2 * x .k + 1) (c .before .loop .at) (c .before .before .read .result) (c .before .loop .e) (c .before .loop .inv .1) (omega arith) in
     omega arith
 
 page-add-read-2 : (t : ℕ) → page-lts.Need-add-read-2 (page-calls t) (page-at t) page.Post page-Inv-loop page-μ-loop
@@ -129,7 +131,7 @@ page-add-read-2 t c = let x = c .before .before .before .before .before .before 
     let h = c .before .before .before .before .before .before .before .before .before .before .before .before .before .before .before .before .pre .1 in
     let g = h .pool in
     let i = fresh-number (x .n) (x .j) (x .met .now) (x .s) (sym (c .before .before .before .before .before .before .before .before .before .before .before .fresh .ensures) ∙ not-false _ (c .before .before .before .before .before .before .before .before .before .before .if1 .left)) in
-    let r = room-here (2 * x .k + 1) _ _ (c .before .loop .at) (L * x .j + L) (c .before .loop .inv .1) (omega arith) in
+    let r = row-first (x .p .now) (2 * x .k + 1) (c .before .loop .at) (c .before .before .read .result) (c .before .loop .e) (c .before .loop .inv .1) (omega arith) in
     omega arith
 
 page-read-requires-2 : (t : ℕ) → page-lts.Need-read-requires-2 (page-calls t) (page-at t) page.Post page-Inv-loop page-μ-loop
@@ -137,7 +139,7 @@ page-read-requires-2 t c κs = let x = c .before .before .before .before .before
     let h = c .before .before .before .before .before .before .before .before .before .before .before .before .before .before .before .before .pre .1 in
     let g = h .pool in
     let i = fresh-number (x .n) (x .j) (x .met .now) (x .s) (sym (c .before .before .before .before .before .before .before .before .before .before .before .fresh .ensures) ∙ not-false _ (c .before .before .before .before .before .before .before .before .before .before .if1 .left)) in
-    let r = room-here (2 * x .k + 1) _ _ (c .before .loop .at) (L * x .j + L) (c .before .loop .inv .1) (omega arith) in
+    let r = row-first (x .p .now) (2 * x .k + 1) (c .before .loop .at) (c .before .before .read .result) (c .before .loop .e) (c .before .loop .inv .1) (omega arith) in
     omega arith
 
 page-page-requires : (t : ℕ) → page-lts.Need-page-requires (page-calls t) (page-at t) page.Post page-Inv-loop page-μ-loop
@@ -145,7 +147,7 @@ page-page-requires t c κs = let x = c .before .before .before .before .before .
     let h = c .before .before .before .before .before .before .before .before .before .before .before .before .before .before .before .before .before .before .pre .1 in
     let g = h .pool in
     let i = fresh-number (x .n) (x .j) (x .met .now) (x .s) (sym (c .before .before .before .before .before .before .before .before .before .before .before .before .before .fresh .ensures) ∙ not-false _ (c .before .before .before .before .before .before .before .before .before .before .before .before .if1 .left)) in
-    let r = room-here (2 * x .k + 1) _ _ (c .before .before .before .loop .at) (L * x .j + L) (c .before .before .before .loop .inv .1) (omega arith) in
+    let r = row-first (x .p .now) (2 * x .k + 1) (c .before .before .before .loop .at) (c .before .before .before .before .read .result) (c .before .before .before .loop .e) (c .before .before .before .loop .inv .1) (omega arith) in
     let d = c .before .before .before .before .before .before .before .if2 .left in
     let z = c .before .before .before .before .before .before .before .before .before .before .before .before .before .before .before .before .before .before .pre .0 in
     (omega arith, record { pool = g; domains = h .domains; least = h .least; most = h .most; region = omega arith; near = omega arith })
@@ -163,7 +165,7 @@ page-add-at-3 t c = let x = c .before .before .before .before .before .before .b
     let h = c .before .before .before .before .before .before .before .before .before .before .before .before .before .before .before .before .before .before .before .before .before .pre .1 in
     let g = h .pool in
     let i = fresh-number (x .n) (x .j) (x .met .now) (x .s) (sym (c .before .before .before .before .before .before .before .before .before .before .before .before .before .before .before .before .fresh .ensures) ∙ not-false _ (c .before .before .before .before .before .before .before .before .before .before .before .before .before .before .before .if1 .left)) in
-    let r = room-here (2 * x .k + 1) _ _ (c .before .before .before .before .before .before .loop .at) (L * x .j + L) (c .before .before .before .before .before .before .loop .inv .1) (omega (arith, c .before .before .before .before .before .loop-test .taken)) in
+    let r = row-first (x .p .now) (2 * x .k + 1) (c .before .before .before .before .before .before .loop .at) (c .before .before .before .before .before .before .before .read .result) (c .before .before .before .before .before .before .loop .e) (c .before .before .before .before .before .before .loop .inv .1) (omega (arith, c .before .before .before .before .before .loop-test .taken)) in
     omega arith
 
 page-add-e : (t : ℕ) → page-lts.Need-add-e (page-calls t) (page-at t) page.Post page-Inv-loop page-μ-loop
@@ -176,7 +178,7 @@ page-loop-again : (t : ℕ) → page-lts.Need-loop-again (page-calls t) (page-at
 page-loop-again t c = let i = c .before .before .before .before .before .before .loop .inv in
     let d = c .before .before .before .before .before .loop-test .taken in
     let e = rw (c .before .before .before .before .read2 .ensures .0) at (c .before .before .page .ensures) in
-    (omega arith, room-next _ _ _ _ _ (i .1) d, c .before .before .page .kept .1 .1 .1 .1 .1 .1 .1 .0 ∙ i .2, rw (ap (λ q. q .0) e, ap (λ q. q .1) e) (entries-next _ _ _ _ _ _ _ _ _ (i .3) d))
+    (omega arith, row-next _ _ _ (c .before .before .before .before .before .before .before .read .result) (c .before .before .before .before .before .before .loop .e) (i .1) d, c .before .before .page .kept .1 .1 .1 .1 .1 .1 .1 .0 ∙ i .2, rw (ap (λ q. q .0) e, ap (λ q. q .1) e) (entries-next _ _ _ _ _ _ _ _ _ (i .3) d))
 
 page-same-length-4 : (t : ℕ) → page-lts.Need-same-length-4 (page-calls t) (page-at t) page.Post page-Inv-loop page-μ-loop
 page-same-length-4 t c = c .before .loop .inv .2 ∙ c .before .before .before .before .before .before .before .before .put .kept .0

@@ -13,8 +13,8 @@ use Rattle.cover.proofs.Loops.{all-on, all-stop}
 use Rattle.audit.specs.Tests.{keysIn, columnIn}
 use Rattle.audit.proofs.Slots.{columns-are}
 use Rattle.audit.proofs.side_holds.Reads as side-holds-reads
-use Rattle.cover.proofs.high.Reads as high-reads
-use Rattle.cover.proofs.low.Reads as low-reads
+use Rattle.words.proofs.upper_end.Reads as upper-end-reads
+use Rattle.words.proofs.lower_end.Reads as lower-end-reads
 use borrow.Author.Needs.{needs}
 use native.Mathlib.Omega.{arith}
 use Rattle.audit.proofs.all_hold.Statement.{statement}
@@ -32,17 +32,17 @@ loop-holds : tie.Need-loop-holds Inv-loop μ-loop
 loop-holds c = let x = c .before .before .args in
     simp sub-zero (columns-are (x .count) (x .p .now) (x .k) (x .q .now) (x .b) (x .at))
 
-low-requires : tie.Need-low-requires Inv-loop μ-loop
-low-requires c κs = search needs
+lower-end-requires : tie.Need-lower-end-requires Inv-loop μ-loop
+lower-end-requires c κs = search needs
 
-high-requires : tie.Need-high-requires Inv-loop μ-loop
-high-requires c κs = search needs
+upper-end-requires : tie.Need-upper-end-requires Inv-loop μ-loop
+upper-end-requires c κs = search needs
 
 side-holds-requires : tie.Need-side-holds-requires Inv-loop μ-loop
 side-holds-requires c κs = search needs
 
 returns : tie.Need-returns Inv-loop μ-loop
-returns c = all-stop _ _ _ _ _ _ (c .before .before .before .before .before .loop .inv) (omega arith) (sym (rw (c .before .before .high .ensures .0, c .before .before .before .low .ensures .0) at (c .before .side-holds .ensures)) ∙ not-true _ (c .if1 .taken))
+returns c = all-stop _ _ _ _ _ _ (c .before .before .before .before .before .loop .inv) (omega arith) (sym (rw (c .before .before .upper-end .ensures .0, c .before .before .before .lower-end .ensures .0) at (c .before .side-holds .ensures)) ∙ not-true _ (c .if1 .taken))
 
 add-d : tie.Need-add-d Inv-loop μ-loop
 add-d c = search needs
@@ -51,7 +51,7 @@ loop-less : tie.Need-loop-less Inv-loop μ-loop
 loop-less c = search needs
 
 loop-again : tie.Need-loop-again Inv-loop μ-loop
-loop-again c = all-on _ _ _ _ _ _ (c .before .before .before .before .before .loop .inv) (omega arith) (sym (rw (c .before .before .high .ensures .0, c .before .before .before .low .ensures .0) at (c .before .side-holds .ensures)) ∙ not-false _ (c .if1 .left))
+loop-again c = all-on _ _ _ _ _ _ (c .before .before .before .before .before .loop .inv) (omega arith) (sym (rw (c .before .before .upper-end .ensures .0, c .before .before .before .lower-end .ensures .0) at (c .before .side-holds .ensures)) ∙ not-false _ (c .if1 .left))
 
 returns-2 : tie.Need-returns-2 Inv-loop μ-loop
 returns-2 c = all-end _ _ _ _ _ _ _ (c .before .loop .inv) (omega arith)
@@ -63,8 +63,8 @@ all-hold-spec =
     Inv-loop
     μ-loop
     loop-holds
-    low-requires
-    high-requires
+    lower-end-requires
+    upper-end-requires
     side-holds-requires
     returns
     add-d

@@ -23,32 +23,23 @@ abbrev μ-loop : tie.MeasureT-loop
 loop-holds : tie.Need-loop-holds Inv-loop μ-loop
 loop-holds c = let a = c .before .before .args in (omega arith, rw (sub-zero (a .k)) (tests.meets-window (a .k) (a .window .now) (c .before .before .pre .1) (a .pool .now) (a .at) (c .before .before .pre .0)))
 
-add-read : tie.Need-add-read Inv-loop μ-loop
-add-read c = search needs
+lower-end-requires : tie.Need-lower-end-requires Inv-loop μ-loop
+lower-end-requires c κs = search needs
 
 read-requires : tie.Need-read-requires Inv-loop μ-loop
 read-requires c κs = search needs
 
-read-requires-2 : tie.Need-read-requires-2 Inv-loop μ-loop
-read-requires-2 c κs = search needs
-
 larger-requires : tie.Need-larger-requires Inv-loop μ-loop
 larger-requires c κs = search needs
 
-add-read-2 : tie.Need-add-read-2 Inv-loop μ-loop
-add-read-2 c = search needs
+upper-end-requires : tie.Need-upper-end-requires Inv-loop μ-loop
+upper-end-requires c κs = search needs
 
-add-read-3 : tie.Need-add-read-3 Inv-loop μ-loop
-add-read-3 c = search needs
+add-read : tie.Need-add-read Inv-loop μ-loop
+add-read c = search needs
 
-read-requires-3 : tie.Need-read-requires-3 Inv-loop μ-loop
-read-requires-3 c κs = search needs
-
-add-read-4 : tie.Need-add-read-4 Inv-loop μ-loop
-add-read-4 c = search needs
-
-read-requires-4 : tie.Need-read-requires-4 Inv-loop μ-loop
-read-requires-4 c κs = search needs
+read-requires-2 : tie.Need-read-requires-2 Inv-loop μ-loop
+read-requires-2 c κs = search needs
 
 add-d : tie.Need-add-d Inv-loop μ-loop
 add-d c = search needs
@@ -57,7 +48,7 @@ loop-less : tie.Need-loop-less Inv-loop μ-loop
 loop-less c = search needs
 
 loop-again : tie.Need-loop-again Inv-loop μ-loop
-loop-again c = (omega arith, rw (c .before .before .larger .ensures, c .before .before .before .read2 .ensures .0, c .before .before .before .before .read .ensures .0, c .before .read3 .ensures .0, c .read4 .ensures .0) (all-next _ _ _ _ _ _ _ (c .before .before .before .before .before .before .loop .inv .1) (omega arith)))
+loop-again c = (omega arith, rw (c .before .before .larger .ensures, c .before .before .before .read .ensures .0, c .before .before .before .before .lower-end .ensures .0, c .before .upper-end .ensures .0, c .read2 .ensures .0) (all-next _ _ _ _ _ _ _ (c .before .before .before .before .before .before .loop .inv .1) (omega arith)))
 
 returns : tie.Need-returns Inv-loop μ-loop
 returns c = all-end _ _ _ _ _ _ _ (c .before .loop .inv .1) (omega arith)
@@ -69,15 +60,12 @@ meets-window-spec =
     Inv-loop
     μ-loop
     loop-holds
-    add-read
+    lower-end-requires
     read-requires
-    read-requires-2
     larger-requires
-    add-read-2
-    add-read-3
-    read-requires-3
-    add-read-4
-    read-requires-4
+    upper-end-requires
+    add-read
+    read-requires-2
     add-d
     loop-less
     loop-again

@@ -25,20 +25,11 @@ loop-holds c = let a = c .before .before .args in (omega arith, rw (sub-zero (a 
 read-requires : tie.Need-read-requires Inv-loop μ-loop
 read-requires c κs = search needs
 
-add-read : tie.Need-add-read Inv-loop μ-loop
-add-read c = search needs
+lower-end-requires : tie.Need-lower-end-requires Inv-loop μ-loop
+lower-end-requires c κs = search needs
 
-read-requires-2 : tie.Need-read-requires-2 Inv-loop μ-loop
-read-requires-2 c κs = search needs
-
-add-read-2 : tie.Need-add-read-2 Inv-loop μ-loop
-add-read-2 c = search needs
-
-add-read-3 : tie.Need-add-read-3 Inv-loop μ-loop
-add-read-3 c = search needs
-
-read-requires-3 : tie.Need-read-requires-3 Inv-loop μ-loop
-read-requires-3 c κs = search needs
+upper-end-requires : tie.Need-upper-end-requires Inv-loop μ-loop
+upper-end-requires c κs = search needs
 
 add-d : tie.Need-add-d Inv-loop μ-loop
 add-d c = search needs
@@ -47,7 +38,7 @@ loop-less : tie.Need-loop-less Inv-loop μ-loop
 loop-less c = search needs
 
 loop-again : tie.Need-loop-again Inv-loop μ-loop
-loop-again c = (omega arith, rw (c .before .before .read .ensures .0, c .before .read2 .ensures .0, c .read3 .ensures .0) (all-next _ _ _ _ _ _ _ (c .before .before .before .before .loop .inv .1) (omega arith)))
+loop-again c = (omega arith, rw (c .before .before .read .ensures .0, c .before .lower-end .ensures .0, c .upper-end .ensures .0) (all-next _ _ _ _ _ _ _ (c .before .before .before .before .loop .inv .1) (omega arith)))
 
 returns : tie.Need-returns Inv-loop μ-loop
 returns c = all-end _ _ _ _ _ _ _ (c .before .loop .inv .1) (omega arith)
@@ -60,11 +51,8 @@ point-in-spec =
     μ-loop
     loop-holds
     read-requires
-    add-read
-    read-requires-2
-    add-read-2
-    add-read-3
-    read-requires-3
+    lower-end-requires
+    upper-end-requires
     add-d
     loop-less
     loop-again

@@ -15,8 +15,8 @@ use Rattle.cover.proofs.inside.Statement.{statement}
 use Rattle.cover.proofs.inside.Tie as tie
 use Rattle.cover.proofs.inside.Reads as reads
 use Rattle.cover.proofs.inside.Lts as lts
-use Rattle.cover.proofs.high.Reads as high-reads
-use Rattle.cover.proofs.low.Reads as low-reads
+use Rattle.words.proofs.upper_end.Reads as upper-end-reads
+use Rattle.words.proofs.lower_end.Reads as lower-end-reads
 
 abbrev Inv-loop : tie.InvT-loop
 Inv-loop p a k q b i₀ i = allBy (k - i) (λ n d. insideSide (sideAt p k a d) (sideAt q k b d)) 1 i true ≡ insideOf (boxAt p k a) (boxAt q k b)
@@ -28,21 +28,21 @@ loop-holds : tie.Need-loop-holds Inv-loop μ-loop
 loop-holds c = let x = c .before .before .args in
     simp sub-zero (side-loop insideSide (x .k) (sideAt (x .p .now) (x .k) (x .a)) (sideAt (x .q .now) (x .k) (x .b)) 0 true)
 
-low-requires : tie.Need-low-requires Inv-loop μ-loop
-low-requires c κs = search needs
+lower-end-requires : tie.Need-lower-end-requires Inv-loop μ-loop
+lower-end-requires c κs = search needs
 
-high-requires : tie.Need-high-requires Inv-loop μ-loop
-high-requires c κs = search needs
+upper-end-requires : tie.Need-upper-end-requires Inv-loop μ-loop
+upper-end-requires c κs = search needs
 
-low-requires-2 : tie.Need-low-requires-2 Inv-loop μ-loop
-low-requires-2 c κs = search needs
+lower-end-requires-2 : tie.Need-lower-end-requires-2 Inv-loop μ-loop
+lower-end-requires-2 c κs = search needs
 
-high-requires-2 : tie.Need-high-requires-2 Inv-loop μ-loop
-high-requires-2 c κs = search needs
+upper-end-requires-2 : tie.Need-upper-end-requires-2 Inv-loop μ-loop
+upper-end-requires-2 c κs = search needs
 
 returns : tie.Need-returns Inv-loop μ-loop
 returns c = all-stop _ _ _ _ _ _ (c .before .before .before .before .before .before .loop .inv) (omega arith)
-    (not-true _ (rw (c .before .high2 .ensures .0, c .before .before .low2 .ensures .0, c .before .before .before .high .ensures .0, c .before .before .before .before .low .ensures .0) at (c .if1 .taken)))
+    (not-true _ (rw (c .before .upper-end2 .ensures .0, c .before .before .lower-end2 .ensures .0, c .before .before .before .upper-end .ensures .0, c .before .before .before .before .lower-end .ensures .0) at (c .if1 .taken)))
 
 add-i : tie.Need-add-i Inv-loop μ-loop
 add-i c = search needs
@@ -52,7 +52,7 @@ loop-less c = search needs
 
 loop-again : tie.Need-loop-again Inv-loop μ-loop
 loop-again c = all-on _ _ _ _ _ _ (c .before .before .before .before .before .before .loop .inv) (omega arith)
-    (not-false _ (rw (c .before .high2 .ensures .0, c .before .before .low2 .ensures .0, c .before .before .before .high .ensures .0, c .before .before .before .before .low .ensures .0) at (c .if1 .left)))
+    (not-false _ (rw (c .before .upper-end2 .ensures .0, c .before .before .lower-end2 .ensures .0, c .before .before .before .upper-end .ensures .0, c .before .before .before .before .lower-end .ensures .0) at (c .if1 .left)))
 
 returns-2 : tie.Need-returns-2 Inv-loop μ-loop
 returns-2 c = all-end _ _ _ _ _ _ _ (c .before .loop .inv) (omega arith)
@@ -64,10 +64,10 @@ inside-spec =
     Inv-loop
     μ-loop
     loop-holds
-    low-requires
-    high-requires
-    low-requires-2
-    high-requires-2
+    lower-end-requires
+    upper-end-requires
+    lower-end-requires-2
+    upper-end-requires-2
     returns
     add-i
     loop-less

@@ -9,8 +9,8 @@ use Rattle.cover.proofs.volume.Tie as tie
 use Rattle.cover.proofs.volume.Reads as reads
 use Rattle.cover.proofs.volume.Lts as lts
 use Rattle.cover.proofs.times.Reads as times-reads
-use Rattle.cover.proofs.high.Reads as high-reads
-use Rattle.cover.proofs.low.Reads as low-reads
+use Rattle.words.proofs.upper_end.Reads as upper-end-reads
+use Rattle.words.proofs.lower_end.Reads as lower-end-reads
 use Rattle.cover.proofs.plane.Reads as plane-reads
 
 abbrev Inv-loop : tie.InvT-loop
@@ -25,19 +25,19 @@ plane-requires c κs = search needs
 loop-holds : tie.Need-loop-holds Inv-loop μ-loop
 loop-holds c = c .plane .ensures
 
-low-requires : tie.Need-low-requires Inv-loop μ-loop
-low-requires c κs = search needs
+lower-end-requires : tie.Need-lower-end-requires Inv-loop μ-loop
+lower-end-requires c κs = search needs
 
-high-requires : tie.Need-high-requires Inv-loop μ-loop
-high-requires c κs = search needs
+upper-end-requires : tie.Need-upper-end-requires Inv-loop μ-loop
+upper-end-requires c κs = search needs
 
 sub-times : tie.Need-sub-times Inv-loop μ-loop
 sub-times c = let x = c .before .before .before .before .before .before .args in
-    omega (arith, c .high .ensures .0, c .before .low .ensures .0, side-some (x .p .now) (x .k) (x .a) _ _ (c .before .before .before .loop .inv) (omega arith))
+    omega (arith, c .upper-end .ensures .0, c .before .lower-end .ensures .0, side-some (x .p .now) (x .k) (x .a) _ _ (c .before .before .before .loop .inv) (omega arith))
 
 times-requires : tie.Need-times-requires Inv-loop μ-loop
 times-requires c κs = let x = c .before .before .before .before .before .before .args in
-    (side-small (x .p .now) (x .k) (x .a) _ _ (c .before .before .before .loop .inv) (omega arith) (omega arith), omega (arith, c .high .ensures .1))
+    (side-small (x .p .now) (x .k) (x .a) _ _ (c .before .before .before .loop .inv) (omega arith) (omega arith), omega (arith, c .upper-end .ensures .1))
 
 add-i : tie.Need-add-i Inv-loop μ-loop
 add-i c = search needs
@@ -46,8 +46,8 @@ loop-less : tie.Need-loop-less Inv-loop μ-loop
 loop-less c = search needs
 
 loop-again : tie.Need-loop-again Inv-loop μ-loop
-loop-again c = sides-next _ _ _ _ _ (c .before .before .before .before .loop .inv) (omega arith) _ (omega (arith, c .before .high .ensures .0, c .before .high .ensures .1))
-    (rw (c .before .high .ensures .0, c .before .before .low .ensures .0) at (c .times .ensures))
+loop-again c = sides-next _ _ _ _ _ (c .before .before .before .before .loop .inv) (omega arith) _ (omega (arith, c .before .upper-end .ensures .0, c .before .upper-end .ensures .1))
+    (rw (c .before .upper-end .ensures .0, c .before .before .lower-end .ensures .0) at (c .times .ensures))
 
 returns : tie.Need-returns Inv-loop μ-loop
 returns c = sides-end _ _ _ _ _ (c .before .loop .inv) (omega arith)
@@ -60,8 +60,8 @@ volume-spec =
     μ-loop
     plane-requires
     loop-holds
-    low-requires
-    high-requires
+    lower-end-requires
+    upper-end-requires
     sub-times
     times-requires
     add-i

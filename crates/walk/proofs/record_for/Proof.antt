@@ -38,21 +38,12 @@ loop-holds c = let a = c .before .before .before .args in
 same-keys-requires : tie.Need-same-keys-requires Inv-loop μ-loop
 same-keys-requires c κs = let a = c .before .before .before .before .before .args in (slot-in (a .pool .now) (a .k) (a .j) (c .before .loop .e) (c .before .before .before .before .before .pre .0) (rw (c .before .loop .inv .1) at (c .loop-test .taken)), c .before .before .before .before .before .pre .1)
 
-point-at-requires : tie.Need-point-at-requires Inv-loop μ-loop
-point-at-requires c κs = let a = c .before .before .before .before .before .before .before .args in
-    let g = slot-in (a .pool .now) (a .k) (a .j) (c .before .before .before .loop .e) (c .before .before .before .before .before .before .before .pre .0) (rw (c .before .before .before .loop .inv .1) at (c .before .before .loop-test .taken)) in
-    (g .few, (g .page, g .slot))
-
-add-read-2 : tie.Need-add-read-2 Inv-loop μ-loop
-add-read-2 c = omega (arith, c .point-at .ensures .1, c .before .before .before .before .before .before .before .before .pre .0 .few)
-
-read-requires-2 : tie.Need-read-requires-2 Inv-loop μ-loop
-read-requires-2 c κs = let a = c .before .before .before .before .before .before .before .before .args in
-    let g = slot-in (a .pool .now) (a .k) (a .j) (c .before .before .before .before .loop .e) (c .before .before .before .before .before .before .before .before .pre .0) (rw (c .before .before .before .before .loop .inv .1) at (c .before .before .before .loop-test .taken)) in
-    rw (c .point-at .ensures .0) (g .ends)
+point-location-requires : tie.Need-point-location-requires Inv-loop μ-loop
+point-location-requires c κs = let a = c .before .before .before .before .before .before .before .args in
+    slot-in (a .pool .now) (a .k) (a .j) (c .before .before .before .loop .e) (c .before .before .before .before .before .before .before .pre .0) (rw (c .before .before .before .loop .inv .1) at (c .before .before .loop-test .taken))
 
 returns : tie.Need-returns Inv-loop μ-loop
-returns c = rw (c .read2 .ensures .0, c .before .point-at .ensures .0) (record-here _ _ _ _ _ _ _ _ (c .before .before .before .before .before .loop .inv .2) (c .before .before .before .before .loop-test .taken) (sym (c .before .before .before .same-keys .ensures) ∙ c .before .before .if1 .taken))
+returns c = rw (c .point-location .ensures .0) (record-here _ _ _ _ _ _ _ _ (c .before .before .before .before .loop .inv .2) (c .before .before .before .loop-test .taken) (sym (c .before .before .same-keys .ensures) ∙ c .before .if1 .taken))
 
 add-e : tie.Need-add-e Inv-loop μ-loop
 add-e c = search needs
@@ -77,9 +68,7 @@ record-for-spec =
     read-requires
     loop-holds
     same-keys-requires
-    point-at-requires
-    add-read-2
-    read-requires-2
+    point-location-requires
     returns
     add-e
     loop-less

@@ -12,14 +12,8 @@ use Rattle.walk.proofs.visit.Tie as tie
 in-window-requires : tie.Need-in-window-requires
 in-window-requires c κs = search needs
 
-point-at-requires : tie.Need-point-at-requires
-point-at-requires c κs = search needs
-
-add-read : tie.Need-add-read
-add-read c = search needs
-
-read-requires : tie.Need-read-requires
-read-requires c κs = search needs
+point-location-requires : tie.Need-point-location-requires
+point-location-requires c κs = search needs
 
 get-requires : tie.Need-get-requires
 get-requires c κs = search needs
@@ -40,13 +34,13 @@ same-length : tie.Need-same-length
 same-length c = c .before .before .before .put .kept .0
 
 returns : tie.Need-returns
-returns c = let a = c .before .before .before .before .before .before .before .before .before .before .before .before .before .before .args in
-    let h = c .before .before .before .before .before .before .before .before .before .before .in-window .ensures in
+returns c = let a = c .before .before .before .before .before .before .before .before .before .before .before .before .before .args in
+    let h = c .before .before .before .before .before .before .before .before .before .in-window .ensures in
     let sees = inWindow (windowOf (a .k) (a .window .now)) (keysOf (a .k) (a .pool .now) (a .j) (a .slot)) in (
       rw (c .one .ensures .0, h) (counted sees (a .total)),
       (
         c .before .before .before .put .ensures
-            ∙ (rw (c .before .before .before .before .either .ensures .0, c .before .before .before .before .before .before .get .ensures .0, c .before .before .before .before .before .before .before .before .read .ensures .0, c .before .before .before .before .before .before .before .before .before .point-at .ensures .0, h) (written sees (a .answer .now) (a .total) (pointLocation (a .pool .now) (a .k) (a .j) (a .slot)))),
+            ∙ (rw (c .before .before .before .before .either .ensures .0, c .before .before .before .before .before .before .get .ensures .0, c .before .before .before .before .before .before .before .before .point-location .ensures .0, h) (written sees (a .answer .now) (a .total) (pointLocation (a .pool .now) (a .k) (a .j) (a .slot)))),
         omega (arith, c .one .ensures .1),
       ),
     )
@@ -56,9 +50,7 @@ visit-spec =
     tie.close
     (tie.spec
     in-window-requires
-    point-at-requires
-    add-read
-    read-requires
+    point-location-requires
     get-requires
     either-requires
     put-requires

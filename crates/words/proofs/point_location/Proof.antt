@@ -6,14 +6,14 @@ use Rattle.words.proofs.point_location.Tie as tie
 point-at-requires : tie.Need-point-at-requires
 point-at-requires c κs = search needs
 
-add-get : tie.Need-add-get
-add-get c = search needs
+add-read : tie.Need-add-read
+add-read c = search needs
 
-get-requires : tie.Need-get-requires
-get-requires c κs = search needs
+read-requires : tie.Need-read-requires
+read-requires c κs = search needs
 
 returns : tie.Need-returns
-returns c = (rw (← c .before .point-at .ensures .0) (c .get .ensures .0), c .get .ensures .1)
+returns c = (rw (← c .before .point-at .ensures .0) (c .read .ensures .0), c .read .ensures .1)
 
 pub point-location-spec : {M : Type 1} → statement M
-point-location-spec = tie.close (tie.spec point-at-requires add-get get-requires returns)
+point-location-spec = tie.close (tie.spec point-at-requires add-read read-requires returns)
