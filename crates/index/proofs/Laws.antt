@@ -1,52 +1,57 @@
--- Each way through a public call is the outcome that the definition gives: the refusals in the table's order, then the walk.
-use mathlib.Core.Bool.{Bool, true, false, _||_, cond}
-use mathlib.Core.List.{List, [], _∷_}
-use mathlib.Core.Path.{_≡_, refl}
-use Prim.Native.Nat.{ℕ, suc, _-_, _*_, _≤_}
+-- What format, place and remove answer once their pool is opened is the outcome that the definition gives; what a sound pool leaves room for.
+use mathlib.Core.Bool.{Bool, true, false, _&&_, _||_, not, cond}
+use mathlib.Core.List.{List, [], _∷_, _++_, map}
+use mathlib.Core.Path.{_≡_, refl, sym, ap, _∙_, subst}
+use Prim.Native.Nat.{ℕ, zero, suc, _+_, _-_, _*_, _<_, _≤_}
 use native.Mathlib.Omega.{arith}
-use native.Mathlib.Nat.{zero-add, sub-zero}
-use lib.Dec.{leb, ltb}
-use lib.ListN.{length, set, replicate, length-map}
+use native.Mathlib.Nat.{div-le-self, sub-zero}
+use lib.Dec.{T, leb, ltb, eqb, ltb→lt}
+use lib.ListN.{length, set, replicate}
 use lib.Seq.{sets}
-use borrow.Author.Tests.{eq-eqb, ne-eqb, le-leb, lt-leb, ltb-true, ltb-false}
-use Rattle.kdb.specs.Pool.{domains, goodLength, goodHeader}
-use Rattle.kdb.specs.Walk.{Tour, listWalk, End, rootless, bad, absent, here, Search, findWalk}
+use borrow.Author.Tests.{eqb-true, le-leb, lt-leb, ltb-true, ltb-false}
+use Rattle.kdb.specs.Lists.{sum, upFrom}
+use Rattle.kdb.specs.Pages.{recsIn, page, readPage, blank}
+use Rattle.kdb.specs.Pool.{domains, countAt, pagesIn, goodLength, view, Sound}
+use Rattle.kdb.specs.Walk.{Spot, End, rootless, bad, absent, here, findWalk}
 use Rattle.kdb.specs.Print.{sound}
-use Rattle.kdb.specs.Calls.{Promise, check, L, format, find, list, gives, refuses, finite, goodDomains, formatted, windowOf, ordered, finding, listing, outcome}
-use Rattle.kdb.proofs.Lists.{and-false, sets-fill}
-use Rattle.words.specs.Words.{Paged, pageCount}
-use Rattle.words.proofs.Laws.{count-some, pages, cleared}
+use Rattle.kdb.specs.declared.Refusal.{Refusal}
+use Rattle.kdb.specs.declared.Refusal.the-variants as why
+use Rattle.kdb.specs.Calls.{L, format, place, remove, alone, working, Test, _or_, allHold, headTests, gives, refuses, goodDomains, formatted, present, removing, begins, core, outcome, Promise}
+use Rattle.kdb.proofs.Lists.{and-t, and-l, and-r, and-false, of-true, cases}
+use Rattle.kdb.proofs.Calls.{goes-on, judge-past}
+use Rattle.kdb.proofs.Pool.{sound-iff, header-iff}
+use Rattle.kdb.proofs.Walk.{Named, Ends, find-named}
+use Rattle.words.specs.Words.{Paged, Fit}
+use Rattle.words.proofs.Laws.{pages, cleared}
 use Rattle.walk.specs.declared.Sought.{Sought}
 use Rattle.walk.specs.declared.Sought.the-variants.{Here, Absent, Bad, NoRoot}
-use Rattle.walk.specs.declared.Tally.{Tally}
-use Rattle.walk.specs.Seek.{ended, told}
-use Rattle.walk.specs.List.{seen, locations, walked}
-use Rattle.index.specs.declared.Found.{Found}
-use Rattle.index.specs.declared.Found.the-variants as finds
-use Rattle.index.specs.Answers.{alone, with, foundAs}
-
--- the first two tests of a call that reads
-pub record Top (w : List ℕ) (n : ℕ) : Type 0 where
-  pub long : goodLength L w ≡ true
-  pub header : goodHeader L w ≡ true
-  pub paged : Paged w n
-
-pub top : (w : List ℕ) (n : ℕ) → n ≡ pageCount w → (n ≡ 0 → ⊥) → goodHeader L w ≡ true → Top w n
-top w n e z h = let c = count-some w n e z in record { long = c .0; header = h; paged = c .1 }
+use Rattle.walk.specs.Seek.{ended}
+use Rattle.split.specs.Part.{passed}
+use Rattle.steps.specs.Place.{placeIn}
+use Rattle.steps.specs.Remove.{removeIn}
+use Rattle.steps.proofs.Promise.{place-core, remove-core}
+use Rattle.place.specs.Steps.{Room}
+use Rattle.opening.specs.declared.Opened.{Opened}
+use Rattle.opening.specs.declared.Opened.the-variants.{Refused}
+use Rattle.opening.specs.Opens.{Opens}
+use Rattle.opening.proofs.Laws.{headed, hold-more, refused-kept}
+use Rattle.index.specs.declared.Removed.{Removed}
+use Rattle.index.specs.declared.Removed.the-variants as removes
+use Rattle.index.specs.Answers.{removedAs}
 
 -- format
 module _ (w : List ℕ) (k : ℕ) where
-  pub format-1 : goodLength L w ≡ false → refuses 1 (alone w) ≡ outcome w (format k)
+  pub format-long : goodLength L w ≡ false → Promise w (format k) (refuses why.PoolLength (alone w))
   unfolding outcome
-  format-1 h = rw h
+  format-long h = record { kept = rw h }
 
-  pub format-2 : goodLength L w ≡ true → goodDomains k ≡ false → refuses 2 (alone w) ≡ outcome w (format k)
+  pub format-domains : goodLength L w ≡ true → goodDomains k ≡ false → Promise w (format k) (refuses why.Domains (alone w))
   unfolding outcome
-  format-2 h d = rw (h, d)
+  format-domains h d = record { kept = rw (h, d) }
 
-  pub format-0 : goodLength L w ≡ true → goodDomains k ≡ true → gives [] (alone (formatted w k)) ≡ outcome w (format k)
+  pub format-done : goodLength L w ≡ true → goodDomains k ≡ true → gives [] (alone (formatted w k)) ≡ outcome w (format k)
   unfolding outcome
-  format-0 h d = rw (h, d)
+  format-done h d = rw (h, d)
 
 pub formats : (w : List ℕ) (n k : ℕ) → Paged w n → set (set (sets w 0 (replicate (length w - 0) 0)) 0 k) 1 n ≡ formatted w k
 formats w n k g =
@@ -55,115 +60,6 @@ formats w n k g =
   where
     go : (l m : ℕ) → l ≡ suc (suc m) → set (set (replicate l 0) 0 k) 1 n ≡ k ∷ n ∷ replicate m 0
     go l m e = rw e
-
--- check
-module _ (w : List ℕ) where
-  pub check-length : goodLength L w ≡ false → Promise w check (refuses 1 (alone w))
-  unfolding outcome
-  check-length a = record { kept = rw a }
-
-  pub check-header : goodLength L w ≡ true → goodHeader L w ≡ false → Promise w check (refuses 6 (alone w))
-  unfolding outcome
-  check-header a b = record { kept = rw (a, b) }
-
-  pub check-unsound : goodLength L w ≡ true → goodHeader L w ≡ true → sound L w ≡ false → Promise w check (refuses 6 (alone w))
-  unfolding outcome
-  check-unsound a b c = record { kept = rw (a, b, c) }
-
-  pub check-sound : goodLength L w ≡ true → goodHeader L w ≡ true → sound L w ≡ true → Promise w check (gives [] (alone w))
-  unfolding outcome
-  check-sound a b c = record { kept = rw (a, b, c) }
-
--- find
-module _ (w p : List ℕ) where
-  pub find-1 : goodLength L w ≡ false → refuses 1 (alone w) ≡ outcome w (find p)
-  unfolding outcome
-  find-1 h = rw h
-
-  pub find-6 : goodLength L w ≡ true → goodHeader L w ≡ false → refuses 6 (alone w) ≡ outcome w (find p)
-  unfolding outcome
-  find-6 h g = rw (h, g)
-
-  module _ (n k : ℕ) (t : Top w n) (e : k ≡ domains w) where
-    pub find-3 : (length p ≡ k → ⊥) → refuses 3 (alone w) ≡ outcome w (find p)
-    unfolding outcome
-    find-3 z = rw (t .long, t .header, ← e, ne-eqb _ _ z)
-
-    pub find-4 : length p ≡ k → finite p ≡ false → refuses 4 (alone w) ≡ outcome w (find p)
-    unfolding outcome
-    find-4 z f = rw (t .long, t .header, ← e, eq-eqb _ _ z, f)
-
-    pub find-0 : length p ≡ k → finite p ≡ true → finding (findWalk L w p) (alone w) ≡ outcome w (find p)
-    unfolding outcome
-    find-0 z f = rw (t .long, t .header, ← e, eq-eqb _ _ z, f)
-
--- the search's answer as find's
-abbrev pub answerOf : Sought → Found
-answerOf (Here j s l r) = finds.At l r
-answerOf (Absent j r) = finds.Absent
-answerOf (Bad r) = finds.BadPage
-answerOf NoRoot = finds.Absent
-
-pub answers : (g : Search) (w : List ℕ) → foundAs (answerOf (told 0 g)) w ≡ finding g (alone w)
-answers g w = rw (zero-add (length (g .read))) (go (g .end))
-  where
-    go : (e : End) → foundAs (answerOf (ended (length (g .read)) e)) w ≡ elim e [ rootless ↦ refuses 8 (alone w) | bad ↦ refuses 6 (alone w) | absent j ↦ refuses 8 (alone w) | here s ↦ gives (s .rec .loc ∷ length (g .read) ∷ []) (alone w) ]
-    go rootless = refl
-    go bad = refl
-    go (absent j) = refl
-    go (here s) = refl
-
--- list
-module _ (w v out : List ℕ) where
-  pub list-1 : goodLength L w ≡ false → refuses 1 (with w out) ≡ outcome w (list v out)
-  unfolding outcome
-  list-1 h = rw h
-
-  pub list-6 : goodLength L w ≡ true → goodHeader L w ≡ false → refuses 6 (with w out) ≡ outcome w (list v out)
-  unfolding outcome
-  list-6 h g = rw (h, g)
-
-  module _ (n k : ℕ) (t : Top w n) (e : k ≡ domains w) where
-    pub list-3 : (length v ≡ 2 * k → ⊥) → refuses 3 (with w out) ≡ outcome w (list v out)
-    unfolding outcome
-    list-3 z = rw (t .long, t .header, ← e, ne-eqb _ _ z)
-
-    pub list-4 : length v ≡ 2 * k → finite v ≡ false → refuses 4 (with w out) ≡ outcome w (list v out)
-    unfolding outcome
-    list-4 z f = rw (t .long, t .header, ← e, eq-eqb _ _ z, f)
-
-    pub list-5 : length v ≡ 2 * k → finite v ≡ true → ordered (windowOf k v) ≡ false → refuses 5 (with w out) ≡ outcome w (list v out)
-    unfolding outcome
-    list-5 z f o = rw (t .long, t .header, ← e, eq-eqb _ _ z, f, o)
-
-    pub list-0 : length v ≡ 2 * k → finite v ≡ true → ordered (windowOf k v) ≡ true → listing (listWalk L w (windowOf k v)) w out ≡ outcome w (list v out)
-    unfolding outcome
-    list-0 z f o = rw (t .long, t .header, ← e, eq-eqb _ _ z, f, o)
-
--- the walk's state as list's outcome
-module _ (w out : List ℕ) (t : Tally) (out′ : List ℕ) (g : Tour) (e : seen t out′ ≡ walked out g) where
-  abbrev left : List ℕ
-  left = sets out′ (cond (t .bad) 0 (length out)) (replicate (length out - cond (t .bad) 0 (length out)) 0)
-
-  pub list-bad : t .bad ≡ true → length out′ ≡ length out → refuses 6 (with w left) ≡ listing g w out
-  list-bad h l = go (g .bad) refl
-    where
-      go : (b : Bool) → g .bad ≡ b → refuses 6 (with w left) ≡ listing g w out
-      go true q = rw (q, h, sub-zero (length out), ← l, cleared out′)
-      go false q = let x = rw (h, q) at e in absurd (let y : _≡_ {A = ℕ} 0 1 = cc in omega arith)
-
-  pub list-good : t .bad ≡ false → gives (t .total ∷ t .reads ∷ []) (with w left) ≡ listing g w out
-  list-good h = go (g .bad) refl
-    where
-      go : (b : Bool) → g .bad ≡ b → gives (t .total ∷ t .reads ∷ []) (with w left) ≡ listing g w out
-      go true q = let x = rw (h, q) at e in absurd (let y : _≡_ {A = ℕ} 0 1 = cc in omega arith)
-      go false q =
-          let x = rw (h, q) at e in
-          let total : t .total ≡ length (g .found) = cc in
-          let reads : t .reads ≡ length (g .read) = cc in
-          let slots : out′ ≡ sets out 0 (locations (g .found)) = cc in
-          let none : length out - length out ≡ 0 = omega arith in
-          rw (q, h, none, total, reads, slots, sets-fill out (locations (g .found)), length-map (g .found) (λ s. s .rec .loc))
 
 -- K is 1 to 4, as format tests it
 pub outside : (k : ℕ) → ltb k 1 || ltb 4 k ≡ true → goodDomains k ≡ false
@@ -184,3 +80,147 @@ inside k t = go (ltb k 1) (ltb 4 k) refl refl t
         let l : leb 1 k ≡ true = le-leb 1 k (ltb-false k 1 p) in
         let u : leb k 4 ≡ true = le-leb k 4 (ltb-false 4 k q) in
         (rw (l, u), ltb-false 4 k q)
+
+-- a sound pool counts few records, and a walk in it ends at a page and a slot that there are
+sum-few : (f : ℕ → ℕ) → ((j : ℕ) → f j ≤ 28) → (m c : ℕ) → sum (map f (upFrom m c)) ≤ 28 * m
+sum-few f h zero c = omega arith
+sum-few f h (suc m) c = omega (arith, h c, sum-few f h m (suc c))
+
+module _ (w : List ℕ) (n : ℕ) (g : Paged w n) (s : Sound L w) where
+  slots-few : (j : ℕ) → length (recsIn (view L w j)) ≤ 28
+  slots-few j = omega (arith, s .pointRoom j, div-le-self 28 (domains w + 1))
+
+  pub count-few : countAt w + 1 < 4294967296
+  count-few = omega (arith, s .counted, sum-few (λ j. length (recsIn (view L w j))) slots-few (pagesIn L w - 1) 1, pages w n g, g .most)
+
+  page-near : (j : ℕ) → 1 ≤ length (recsIn (view L w j)) → j < 4294967296
+  page-near j h =
+      cases (λ t. 1 ≤ length (recsIn (cond t (readPage (domains w) (page L w j)) blank)) → j < 4294967296) (leb 1 j && ltb j (pagesIn L w))
+      (λ t _. omega (arith, ltb→lt j (pagesIn L w) (and-r (leb 1 j) (ltb j (pagesIn L w)) t), pages w n g, g .most)) (λ _ q. absurd (omega arith)) h
+
+  pub spot-near : (x : Spot) → Named L w x → (x .page < 4294967296) × (x .slot < 4294967296)
+  spot-near x m = (page-near (x .page) (omega (arith, m .slot)), omega (arith, m .slot, slots-few (x .page)))
+
+-- the tests that place and remove have passed once their pool is opened
+abbrev pub opening : List ℕ → Bool → List ℕ → List Test
+opening w f p = headTests w f p ++ ((sound L w or why.Unsound) ∷ [])
+
+well : (w : List ℕ) (f : Bool) (p : List ℕ) → T (allHold (opening w f p)) → Sound L w
+well w f p h = sound-iff L (omega arith) w .0 (and-l (sound L w) true (headed w f p ((sound L w or why.Unsound) ∷ []) h .more))
+
+-- the search's answer
+abbrev pub isHere : Sought → Bool
+isHere (Here j i loc r) = true
+isHere (Absent j r) = false
+isHere (Bad r) = false
+isHere NoRoot = false
+
+pub present-of : (r : ℕ) (e : End) (s : Sought) → s ≡ ended r e → present e ≡ isHere s
+present-of r rootless s h = rw h
+present-of r bad s h = rw h
+present-of r (absent j) s h = rw h
+present-of r (here x) s h = rw h
+
+pub record Found (e : End) (j i l : ℕ) : Type 0 where
+  pub spot : Spot
+  pub is : e ≡ here spot
+  pub page : spot .page ≡ j
+  pub slot : spot .slot ≡ i
+  pub loc : spot .rec .loc ≡ l
+
+pub here-of : (r : ℕ) (e : End) (j i loc q : ℕ) → Here j i loc q ≡ ended r e → Found e j i loc
+here-of r rootless j i loc q h = absurd (let z : _≡_ {A = ℕ} 0 1 = cc in omega arith)
+here-of r bad j i loc q h = absurd (let z : _≡_ {A = ℕ} 0 1 = cc in omega arith)
+here-of r (absent m) j i loc q h = absurd (let z : _≡_ {A = ℕ} 0 1 = cc in omega arith)
+here-of r (here x) j i loc q h = record { spot = x; is = refl; page = cc; slot = cc; loc = cc }
+
+-- remove whose pool was not opened
+pub remove-refused : (w p : List ℕ) (k : ℕ) → k ≡ domains w → (q : Opened) → Opens w (opening w (eqb (length p) k) p) q → (r : Refusal) → Refused r ≡ q
+    → Promise w (remove p) (refuses r (alone w))
+remove-refused w p k e q o r z = refused-kept w _ q o (remove p) [] r z (ap (λ m. opening w (eqb (length p) m) p) (sym e))
+
+-- the answer of a search that did not find the record, as remove's
+abbrev pub missing : Sought → Removed
+missing (Here j i l r) = removes.At l
+missing (Absent j r) = removes.Refused why.Absent
+missing (Bad r) = removes.Refused why.Unsound
+missing NoRoot = removes.Refused why.Absent
+
+removing-missing : (w p : List ℕ) (r : ℕ) (e : End) (s : Sought) → s ≡ ended r e → isHere s ≡ false → removedAs (missing s) (alone w) ≡ removing e w p
+removing-missing w p r rootless s h z = rw h
+removing-missing w p r bad s h z = rw h
+removing-missing w p r (absent j) s h z = rw h
+removing-missing w p r (here x) s h z = absurd (let y : isHere (ended r (here x)) ≡ false = ap isHere (sym h) ∙ z in let o : _≡_ {A = ℕ} 1 0 = ap (λ b. cond b 1 0) y in omega arith)
+
+-- remove on a pool that was opened
+module _ (w p : List ℕ) (k n : ℕ) (e : k ≡ domains w) (h : Fit w n (domains w) × T (allHold (opening w (eqb (length p) k) p))) where
+  begun : T (begins w (remove p))
+  begun = subst (λ m. T (allHold (opening w (eqb (length p) m) p))) e (h .1)
+
+  pub remove-near : (j i loc : ℕ) → Found (findWalk L w p .end) j i loc → (domains w ≤ 4) × ((j < 4294967296) × (i < 4294967296))
+  remove-near j i loc o =
+      let m : Ends (λ x. Named L w x × (x .rec .key ≡ p)) (here (o .spot)) = subst (Ends (λ x. Named L w x × (x .rec .key ≡ p))) (o .is) (find-named L w p) in
+      let q = spot-near w n (h .0 .paged) (well w (eqb (length p) k) p (h .1)) (o .spot) (m .0) in
+      (h .0 .few, (omega (arith, q .0, o .page), omega (arith, q .1, o .slot)))
+
+  pub remove-done : (j i loc : ℕ) → Found (findWalk L w p .end) j i loc → gives (loc ∷ []) (alone (removeIn L j i w)) ≡ outcome w (remove p)
+  remove-done j i loc o = (rw (← (o .page), ← (o .slot), ← (o .loc)) (sym (remove-core w p (o .spot) begun (o .is)))) ∙ sym (goes-on w (remove p) begun)
+
+  pub remove-missing : (r : ℕ) (s : Sought) → s ≡ ended r (findWalk L w p .end) → isHere s ≡ false → Promise w (remove p) (removedAs (missing s) (alone w))
+  remove-missing r s q z = record { kept = removing-missing w p r (findWalk L w p .end) s q z ∙ sym (goes-on w (remove p) begun) }
+
+-- place whose pool was not opened
+abbrev pub placeFits : List ℕ → List ℕ → List ℕ → ℕ → Bool
+placeFits w work p k = eqb (length p) k && eqb (length work) (length w)
+
+pub place-refused : (w work p : List ℕ) (l k : ℕ) → k ≡ domains w → (q : Opened) → Opens w (opening w (placeFits w work p k) p) q → (r : Refusal) → Refused r ≡ q
+    → Promise w (place work p l) (refuses r (working work w))
+place-refused w work p l k e q o r z =
+    refused-kept w _ q o (place work p l) ((not (present (findWalk L w p .end)) or why.Present) ∷ []) r z
+    (ap (λ m. opening w (placeFits w work p m) p ++ ((not (present (findWalk L w p .end)) or why.Present) ∷ [])) (sym e))
+
+-- place on a pool that was opened
+module _ (w work p : List ℕ) (l k n : ℕ) (e : k ≡ domains w) (h : Fit w n (domains w) × T (allHold (opening w (placeFits w work p k) p))) where
+  pub place-fit : Fit w n k × ((length p ≡ k) × (length work ≡ length w))
+  place-fit =
+      let b = and-t (eqb (length p) k) (eqb (length work) (length w)) (headed w (placeFits w work p k) p ((sound L w or why.Unsound) ∷ []) (h .1) .fits) in
+      (subst (Fit w n) (sym e) (h .0), (eqb-true (length p) k (b .0), eqb-true (length work) (length w) (b .1)))
+
+  held : T (allHold (opening w (placeFits w work p (domains w)) p))
+  held = subst (λ m. T (allHold (opening w (placeFits w work p m) p))) e (h .1)
+
+  pub place-present : present (findWalk L w p .end) ≡ true → Promise w (place work p l) (refuses why.Present (working work w))
+  unfolding outcome
+  place-present q =
+      record {
+        kept = sym (judge-past (opening w (placeFits w work p (domains w)) p) ((not (present (findWalk L w p .end)) or why.Present) ∷ []) (working work w) (core w (place work p l)) held ∙ rw q refl);
+      }
+
+  module _ (q : present (findWalk L w p .end) ≡ false) where
+    places : T (begins w (place work p l))
+    places = hold-more (not (present (findWalk L w p .end))) why.Present (opening w (placeFits w work p (domains w)) p) (of-true (not (present (findWalk L w p .end))) (ap not q)) held
+
+    pub place-room : l < 4294967296 → Room n w p l × (length work ≡ length w)
+    place-room b =
+        let g = h .0 .paged in
+        let s = well w (placeFits w work p k) p (h .1) in
+        let t = header-iff L w .0 (s .header) in (
+          record {
+            words = g .words;
+            least = omega (arith, g .least);
+            most = g .most;
+            some = h .0 .least;
+            few = h .0 .few;
+            topping = record { root = omega (arith, t .root, pages w n g, g .most); levels = omega (arith, t .levels, pages w n g, g .most); count = count-few w n g s };
+            keys = place-fit .1 .0 ∙ e;
+            location = b;
+          },
+          place-fit .1 .1,
+        )
+
+    module _ (ok : Bool) (v : List ℕ) (g : passed ok v ≡ placeIn L p l w) where
+      pub place-done : ok ≡ true → gives [] (working w v) ≡ outcome w (place work p l)
+      place-done o = sym (rw (← g, o) at (place-core w work p l places)) ∙ sym (goes-on w (place work p l) places)
+
+      pub place-short : ok ≡ false → refuses why.NoFreePage (working w v) ≡ outcome w (place work p l)
+      place-short o = sym (rw (← g, o) at (place-core w work p l places)) ∙ sym (goes-on w (place work p l) places)

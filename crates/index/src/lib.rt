@@ -1,116 +1,47 @@
-// The public calls over a lent pool. They have no requires: every input has an answer, and the promise says which.
-use audit::audit;
-use boxes::ordered_window;
+// The public calls that write to the pool: format, place and remove. They have no requires: every input has an answer, and the promise
+// says which.
+use kdb::Refusal;
+use opening::Finished;
+use opening::Opened;
+use opening::open_sound;
 use place::place_in;
 use place::remove_in;
 use walk::Sought;
-use walk::list_walk;
 use walk::search;
-use words::all_finite;
 use words::clear;
 use words::get;
-use words::good_header;
 use words::page_count;
 use words::put;
 ghost use mathlib.Core.Path.{_≡_};
-ghost use mathlib.Core.Bool.{cond};
-ghost use Prim.Native.Nat.{_*_};
 ghost use lib.ListN.{length};
-ghost use Rattle.kdb.specs.Walk.{findWalk, listWalk};
-ghost use Rattle.kdb.specs.Calls.{L, format, check, place, remove, find, list, windowOf, listing, present, Promise};
-ghost use Rattle.walk.specs.Pages.{Fit};
-ghost use Rattle.index.specs.Answers.{formattedAs, checkedAs, placedAs, removedAs, foundAs, listedAs};
-
-pub enum Formatted {
-    Done,
-    NotPages,
-    NotDomains,
-}
-
-pub enum Checked {
-    Sound,
-    NotPages,
-    NotSound,
-}
-
-pub enum Placed {
-    Done,
-    NotPages,
-    BadHeader,
-    NotWords,
-    Infinite,
-    NotSound,
-    Present,
-    NoPage,
-}
+ghost use Rattle.kdb.specs.Walk.{findWalk};
+ghost use Rattle.kdb.specs.Calls.{L, format, place, remove, alone, working, present, Promise};
+ghost use Rattle.words.specs.Words.{Fit};
+ghost use Rattle.opening.specs.Opens.{finishedAs};
+ghost use Rattle.index.specs.Answers.{removedAs};
 
 // At: location.
 pub enum Removed {
     At(usize),
-    NotPages,
-    BadHeader,
-    NotWords,
-    Infinite,
-    NotSound,
-    Absent,
-}
-
-// At: location and pages read.
-pub enum Found {
-    At(usize, usize),
-    NotPages,
-    BadHeader,
-    NotWords,
-    Infinite,
-    BadPage,
-    Absent,
-}
-
-// Counted: total and pages read.
-pub enum Listed {
-    Counted(usize, usize),
-    NotPages,
-    BadHeader,
-    NotWords,
-    Infinite,
-    Crossed,
-    BadPage,
+    Refused(Refusal),
 }
 
 // Zeroes the pool and writes K and N.
-pub fn format(pool: &mut [u32], k: usize) -> Formatted
-    ensures { λ r. ⌜ Promise (now (pool .entry)) (format k) (formattedAs r (now (pool .exit))) ⌝ }
+pub fn format(pool: &mut [u32], k: usize) -> Finished
+    ensures { λ r. ⌜ Promise (now (pool .entry)) (format k) (finishedAs r (alone (now (pool .exit)))) ⌝ }
 {
     let len = pool.len();
     let n = page_count(pool);
     if n == 0 {
-        return Formatted::NotPages;
+        return Finished::Refused(Refusal::PoolLength);
     }
     if (k < 1) | (4 < k) {
-        return Formatted::NotDomains;
+        return Finished::Refused(Refusal::Domains);
     }
     clear(pool, 0, len);
     put(pool, 0, k);
     put(pool, 1, n);
-    Formatted::Done
-}
-
-// Whether the pool is sound.
-pub fn check(pool: &[u32]) -> Checked
-    ensures { λ r. ⌜ Promise (now (pool .entry)) check (checkedAs r (now (pool .entry))) ⌝ }
-{
-    let n = page_count(pool);
-    if n == 0 {
-        return Checked::NotPages;
-    }
-    if !good_header(pool, n) {
-        return Checked::NotSound;
-    }
-    if audit(pool, n) {
-        Checked::Sound
-    } else {
-        Checked::NotSound
-    }
+    Finished::Done
 }
 
 // Whether the search for the point ends at its record.
@@ -126,135 +57,41 @@ fn is_there(pool: &[u32], n: usize, k: usize, point: &[u32]) -> bool
     }
 }
 
-// Places a record. After Done and after NoPage work holds the pool as it stood before; the pool changes only where it is done.
-pub fn place(pool: &mut [u32], work: &mut [u32], point: &[u32], location: u32) -> Placed
-    ensures { λ r. ⌜ Promise (now (pool .entry)) (place (now (work .entry)) (now (point .entry)) location) (placedAs r (now (pool .exit)) (now (work .exit))) ⌝ }
+// Places a record. After Done and after NoFreePage work holds the pool as it stood before; the pool changes only where it is done.
+pub fn place(pool: &mut [u32], work: &mut [u32], point: &[u32], location: u32) -> Finished
+    ensures { λ r. ⌜ Promise (now (pool .entry)) (place (now (work .entry)) (now (point .entry)) location) (finishedAs r (working (now (work .exit)) (now (pool .exit)))) ⌝ }
 {
-    let n = page_count(pool);
-    if n == 0 {
-        return Placed::NotPages;
-    }
-    if !good_header(pool, n) {
-        return Placed::BadHeader;
-    }
     let k = get(pool, 0);
-    if (point.len() != k) | (work.len() != pool.len()) {
-        return Placed::NotWords;
-    }
-    if !all_finite(point) {
-        return Placed::Infinite;
-    }
-    if !audit(pool, n) {
-        return Placed::NotSound;
-    }
+    let fits = (point.len() == k) & (work.len() == pool.len());
+    let n = match open_sound(pool, fits, point) {
+        Opened::Refused(r) => return Finished::Refused(r),
+        Opened::Pages(n) => n,
+    };
     if is_there(pool, n, k, point) {
-        return Placed::Present;
+        return Finished::Refused(Refusal::Present);
     }
     if place_in(pool, work, n, point, location as usize) {
-        return Placed::Done;
+        return Finished::Done;
     }
-    Placed::NoPage
+    Finished::Refused(Refusal::NoFreePage)
 }
 
 // Removes the record with the point's keys, and answers its location.
 pub fn remove(pool: &mut [u32], point: &[u32]) -> Removed
-    ensures { λ r. ⌜ Promise (now (pool .entry)) (remove (now (point .entry))) (removedAs r (now (pool .exit))) ⌝ }
+    ensures { λ r. ⌜ Promise (now (pool .entry)) (remove (now (point .entry))) (removedAs r (alone (now (pool .exit)))) ⌝ }
 {
-    let n = page_count(pool);
-    if n == 0 {
-        return Removed::NotPages;
-    }
-    if !good_header(pool, n) {
-        return Removed::BadHeader;
-    }
     let k = get(pool, 0);
-    if point.len() != k {
-        return Removed::NotWords;
-    }
-    if !all_finite(point) {
-        return Removed::Infinite;
-    }
-    if !audit(pool, n) {
-        return Removed::NotSound;
-    }
+    let n = match open_sound(pool, point.len() == k, point) {
+        Opened::Refused(r) => return Removed::Refused(r),
+        Opened::Pages(n) => n,
+    };
     match search(pool, n, k, point) {
         Sought::Here(page, slot, location, _) => {
             remove_in(pool, page, slot);
             Removed::At(location)
         }
-        Sought::Absent(_, _) => Removed::Absent,
-        Sought::Bad(_) => Removed::NotSound,
-        Sought::NoRoot => Removed::Absent,
+        Sought::Absent(_, _) => Removed::Refused(Refusal::Absent),
+        Sought::Bad(_) => Removed::Refused(Refusal::Unsound),
+        Sought::NoRoot => Removed::Refused(Refusal::Absent),
     }
-}
-
-// The location of the record with the point's keys, and the pages read.
-pub fn find(pool: &[u32], point: &[u32]) -> Found
-    ensures { λ r. ⌜ Promise (now (pool .entry)) (find (now (point .entry))) (foundAs r (now (pool .entry))) ⌝ }
-{
-    let n = page_count(pool);
-    if n == 0 {
-        return Found::NotPages;
-    }
-    if !good_header(pool, n) {
-        return Found::BadHeader;
-    }
-    let k = get(pool, 0);
-    if point.len() != k {
-        return Found::NotWords;
-    }
-    if !all_finite(point) {
-        return Found::Infinite;
-    }
-    match search(pool, n, k, point) {
-        Sought::Here(_, _, location, reads) => Found::At(location, reads),
-        Sought::Absent(_, _) => Found::Absent,
-        Sought::Bad(_) => Found::BadPage,
-        Sought::NoRoot => Found::Absent,
-    }
-}
-
-// From which slot on the answer becomes 0: the first where the walk was stopped, none else.
-fn zeroed_from(stopped: bool, slots: usize) -> usize
-    ensures { λ r. ⌜ r ≡ cond stopped 0 slots ⌝ }
-{
-    if stopped { 0 } else { slots }
-}
-
-// List after the tests of its arguments: the walk, and every slot 0 where it met a bad page or the bound.
-fn list_within(pool: &[u32], n: usize, k: usize, window: &[u32], answer: &mut [u32]) -> Listed
-    requires { ⌜ Fit (now pool) n k × (length (now window) ≡ 2 * k) ⌝ }
-    ensures { λ r. ⌜ listedAs r (now (pool .entry)) (now (answer .exit)) ≡ listing (listWalk L (now (pool .entry)) (windowOf k (now (window .entry)))) (now (pool .entry)) (now (answer .entry)) ⌝ }
-{
-    let slots = answer.len();
-    let t = list_walk(pool, n, k, window, answer);
-    clear(answer, zeroed_from(t.bad, slots), slots);
-    if t.bad {
-        return Listed::BadPage;
-    }
-    Listed::Counted(t.total, t.reads)
-}
-
-// The number of records in the window and the pages read; the answer takes the first locations in walk order.
-pub fn list(pool: &[u32], window: &[u32], answer: &mut [u32]) -> Listed
-    ensures { λ r. ⌜ Promise (now (pool .entry)) (list (now (window .entry)) (now (answer .entry))) (listedAs r (now (pool .entry)) (now (answer .exit))) ⌝ }
-{
-    let n = page_count(pool);
-    if n == 0 {
-        return Listed::NotPages;
-    }
-    if !good_header(pool, n) {
-        return Listed::BadHeader;
-    }
-    let k = get(pool, 0);
-    if window.len() != 2 * k {
-        return Listed::NotWords;
-    }
-    if !all_finite(window) {
-        return Listed::Infinite;
-    }
-    if !ordered_window(window, k) {
-        return Listed::Crossed;
-    }
-    list_within(pool, n, k, window, answer)
 }

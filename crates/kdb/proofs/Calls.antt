@@ -1,141 +1,92 @@
--- Laws of the calls: a refused call leaves the pool as it was; what holds of a call that was done; the calls that only read.
-use mathlib.Core.Bool.{Bool, true, false, _&&_}
+-- Laws of the table: which refusal is given, what holds of every refusal, and what holds of a call that was done.
+use mathlib.Core.Bool.{Bool, true, false, _&&_, not}
 use mathlib.Core.List.{List, [], _∷_, _++_}
-use mathlib.Core.Option.{Option, none, some}
-use mathlib.Core.Path.{_≡_, refl, sym, _∙_}
+use mathlib.Core.Path.{_≡_, refl, sym, ap, _∙_}
+use mathlib.Core.Logic.{_↔_}
 use Prim.Native.Nat.{ℕ}
-use native.Mathlib.Omega.{arith}
-use lib.Dec.{T, ltb, ltb→lt}
-use Rattle.kdb.specs.Tree.{State}
-use Rattle.kdb.specs.Pool.{domains}
-use Rattle.kdb.specs.Walk.{Tour, End, rootless, bad, absent, here, Search, ends, findWalk, listWalk}
-use Rattle.kdb.specs.Calls.{L, Call, format, check, place, remove, find, list, Buffers, lent, Outcome, refuses, Test, unless, judge, tests, core, begins, windowOf, placing, stepped, removing, finding, listing, outcome, Promise}
+use lib.Dec.{T, eqb, T-not}
+use borrow.Author.Tests.{eq-eqb}
 use Rattle.kdb.specs.Lists.{every}
-use Rattle.kdb.proofs.Lists.{and-l, and-r, is-true}
+use Rattle.kdb.specs.declared.Refusal.{Refusal}
+use Rattle.kdb.specs.declared.Refusal.the-variants.{PoolLength, Domains, BufferLength, InfiniteKey, WindowOrder, Unsound, Present, Absent, NoFreePage}
+use Rattle.kdb.specs.Calls.{Call, Buffers, lent, Outcome, refuses, numberOf, Test, unless, judge, allHold, tests, core, begins, outcome, Promise}
+use Rattle.kdb.proofs.Lists.{and-l, and-r, is-true, of-true}
 
--- a property of every refusal and of what the call does holds of the call
-pub judge-both : (P : Outcome → Type 0) (ts : List Test) (b : Buffers) (o : Outcome) → ((n : ℕ) → P (refuses n b)) → P o → P (judge ts b o)
-judge-both P [] b o r d = d
-judge-both P (t ∷ ts) b o r d = go (t .holds) (judge-both P ts b o r d)
+-- a property of every refusal, and of what the call does once its tests hold, holds of the call
+pub judge-after : (P : Outcome → Type 0) (ts : List Test) (b : Buffers) (o : Outcome) → ((r : Refusal) → P (refuses r b)) → (T (allHold ts) → P o)
+    → P (judge ts b o)
+judge-after P [] b o r d = d tt
+judge-after P (t ∷ ts) b o r d = go (t .holds) d (judge-after P ts b o r)
   where
-    go : (h : Bool) → P (judge ts b o) → P (unless h (t .refusal) b (judge ts b o))
-    go true i = i
-    go false i = r (t .refusal)
-
--- no refusal has the number 0
-abbrev pub numbered : List Test → Bool
-numbered ts = every (λ t. ltb 0 (t .refusal)) ts
-
--- a call that was done has passed its tests
-pub judge-done : (ts : List Test) (b : Buffers) (o : Outcome) → T (numbered ts) → judge ts b o .number ≡ 0 → T (every (λ t. t .holds) ts)
-judge-done [] b o s e = tt
-judge-done (t ∷ ts) b o s e = go (t .holds) (judge-done ts b o (and-r (ltb 0 (t .refusal)) _ s)) e
-  where
-    go : (h : Bool) → (judge ts b o .number ≡ 0 → T (every (λ t. t .holds) ts)) → unless h (t .refusal) b (judge ts b o) .number ≡ 0 → T (h && every (λ t. t .holds) ts)
-    go true i e = i e
-    go false i e = absurd (omega (arith, ltb→lt 0 (t .refusal) (and-l (ltb 0 (t .refusal)) _ s)))
-
--- and one that has passed them does what it does
-pub judge-on : (ts : List Test) (b : Buffers) (o : Outcome) → T (every (λ t. t .holds) ts) → judge ts b o ≡ o
-judge-on [] b o h = refl
-judge-on (t ∷ ts) b o h = rw (is-true (t .holds) (and-l (t .holds) _ h)) (judge-on ts b o (and-r (t .holds) _ h))
+    go : (h : Bool) → (T (h && allHold ts) → P o) → ((T (allHold ts) → P o) → P (judge ts b o)) → P (unless h (t .refusal) b (judge ts b o))
+    go true d i = i d
+    go false d i = r (t .refusal)
 
 -- tests that hold stand in no later one's way
-pub judge-past : (ts us : List Test) (b : Buffers) (o : Outcome) → T (every (λ t. t .holds) ts) → judge (ts ++ us) b o ≡ judge us b o
+pub judge-past : (ts us : List Test) (b : Buffers) (o : Outcome) → T (allHold ts) → judge (ts ++ us) b o ≡ judge us b o
 judge-past [] us b o h = refl
 judge-past (t ∷ ts) us b o h = rw (is-true (t .holds) (and-l (t .holds) _ h)) (judge-past ts us b o (and-r (t .holds) _ h))
 
-pub tests-numbered : (w : List ℕ) (c : Call) → T (numbered (tests w c))
-tests-numbered w (format k) = tt
-tests-numbered w check = tt
-tests-numbered w (place work p l) = tt
-tests-numbered w (remove p) = tt
-tests-numbered w (find p) = tt
-tests-numbered w (list v a) = tt
+pub judge-on : (ts : List Test) (b : Buffers) (o : Outcome) → T (allHold ts) → judge ts b o ≡ o
+judge-on [] b o h = refl
+judge-on (t ∷ ts) b o h = rw (is-true (t .holds) (and-l (t .holds) _ h)) (judge-on ts b o (and-r (t .holds) _ h))
+
+-- the first test that fails gives its refusal, whatever stands behind it
+pub judge-fails : (ts us : List Test) (t : Test) (b : Buffers) (o : Outcome) → T (allHold ts) → (T (t .holds) → ⊥) → judge (ts ++ (t ∷ us)) b o ≡ refuses (t .refusal) b
+judge-fails ts us t b o h n = judge-past ts (t ∷ us) b o h ∙ go (t .holds) n
+  where
+    go : (x : Bool) → (T x → ⊥) → unless x (t .refusal) b (judge us b o) ≡ refuses (t .refusal) b
+    go true n = absurd (n tt)
+    go false n = refl
+
+-- no test of these gives the number n
+abbrev pub avoids : ℕ → List Test → Bool
+avoids n ts = every (λ t. not (eqb n (numberOf (t .refusal)))) ts
+
+-- where a number that no test gives is given, all tests hold
+pub all-held : (n : ℕ) (us : List Test) (b : Buffers) (o : Outcome) → T (avoids n us) → judge us b o .number ≡ n → T (allHold us)
+all-held n [] b o a z = tt
+all-held n (u ∷ us) b o a z = go (u .holds) (all-held n us b o (and-r (not (eqb n (numberOf (u .refusal)))) _ a)) z
+  where
+    go : (x : Bool) → (judge us b o .number ≡ n → T (allHold us)) → unless x (u .refusal) b (judge us b o) .number ≡ n → T (x && allHold us)
+    go true i z = i z
+    go false i z = absurd (T-not (eqb n (numberOf (u .refusal))) (and-l (not (eqb n (numberOf (u .refusal)))) _ a) (of-true _ (eq-eqb n (numberOf (u .refusal)) (sym z))))
+
+-- a refusal of the table is given exactly if its test fails, where those before it hold and nothing later gives its number
+pub given : (ts us : List Test) (t : Test) (b : Buffers) (o : Outcome) → T (allHold ts) → T (avoids (numberOf (t .refusal)) us) → (o .number ≡ numberOf (t .refusal) → ⊥)
+    → (judge (ts ++ (t ∷ us)) b o .number ≡ numberOf (t .refusal)) ↔ (T (t .holds) → ⊥)
+given ts us t b o h a d = (
+  λ z y.
+      let e = judge-past ts (t ∷ us) b o h ∙ ap (λ x. unless x (t .refusal) b (judge us b o)) (is-true (t .holds) y) in
+      let later = sym (ap (λ x. x .number) e) ∙ z in
+      d (sym (ap (λ x. x .number) (judge-on us b o (all-held (numberOf (t .refusal)) us b o a later))) ∙ later),
+  λ n. ap (λ x. x .number) (judge-fails ts us t b o h n),
+)
+
+-- 0 is no refusal's number
+some-number : (r : Refusal) → T (not (eqb 0 (numberOf r)))
+some-number PoolLength = tt
+some-number Domains = tt
+some-number BufferLength = tt
+some-number InfiniteKey = tt
+some-number WindowOrder = tt
+some-number Unsound = tt
+some-number Present = tt
+some-number Absent = tt
+some-number NoFreePage = tt
+
+never-0 : (ts : List Test) → T (avoids 0 ts)
+never-0 [] = tt
+never-0 (t ∷ ts) = rw (is-true (not (eqb 0 (numberOf (t .refusal)))) (some-number (t .refusal))) (never-0 ts)
 
 -- the outcome of a call that was done is what the call does once its tests hold
-pub done : (w : List ℕ) (c : Call) → outcome w c .number ≡ 0 → T (begins w c) × (outcome w c ≡ core w c)
-unfolding outcome
-done w c e =
-    let h = judge-done (tests w c) (lent w c) (core w c) (tests-numbered w c) e in (h, judge-on (tests w c) (lent w c) (core w c) h)
-
 pub goes-on : (w : List ℕ) (c : Call) → T (begins w c) → outcome w c ≡ core w c
 unfolding outcome
 goes-on w c h = judge-on (tests w c) (lent w c) (core w c) h
 
--- the pool is as it was, or the call was done
-pub record Kept (w : List ℕ) (o : Outcome) : Type 0 where
-  pub kept : (o .number ≡ 0 → ⊥) → o .after .pool ≡ w
-
--- the pool is as it was
-pub record Still (w : List ℕ) (o : Outcome) : Type 0 where
-  pub still : o .after .pool ≡ w
-
-still-kept : (w : List ℕ) (o : Outcome) → Still w o → Kept w o
-still-kept w o s = record { kept = λ h. s .still }
-
-lent-pool : (w : List ℕ) (c : Call) → lent w c .pool ≡ w
-lent-pool w (format k) = refl
-lent-pool w check = refl
-lent-pool w (place work p l) = refl
-lent-pool w (remove p) = refl
-lent-pool w (find p) = refl
-lent-pool w (list v a) = refl
-
-finding-still : (w : List ℕ) (g : Search) (b : Buffers) → b .pool ≡ w → Still w (finding g b)
-finding-still w g b e = go (g .end)
-  where
-    go : (n : End) → Still w (finding (ends (g .read) n) b)
-    go rootless = record { still = e }
-    go bad = record { still = e }
-    go (absent j) = record { still = e }
-    go (here s) = record { still = e }
-
-listing-still : (w : List ℕ) (t : Tour) (a : List ℕ) → Still w (listing t w a)
-listing-still w t a = go (t .bad)
-  where
-    go : (m : Bool) → Still w (listing (record { read = t .read; bad = m; found = t .found }) w a)
-    go true = record { still = refl }
-    go false = record { still = refl }
-
-core-kept : (w : List ℕ) (c : Call) → Kept w (core w c)
-core-kept w (format k) = record { kept = λ h. absurd (h refl) }
-core-kept w check = record { kept = λ h. refl }
-core-kept w (place work p l) = go (stepped w (record { key = p; loc = l }))
-  where
-    go : (s : Option State) → Kept w (placing s w)
-    go none = record { kept = λ h. refl }
-    go (some s) = record { kept = λ h. absurd (h refl) }
-core-kept w (remove p) = go (findWalk L w p .end)
-  where
-    go : (e : End) → Kept w (removing e w p)
-    go rootless = record { kept = λ h. refl }
-    go bad = record { kept = λ h. refl }
-    go (absent j) = record { kept = λ h. refl }
-    go (here s) = record { kept = λ h. absurd (h refl) }
-core-kept w (find p) = still-kept w _ (finding-still w (findWalk L w p) (lent w (find p)) refl)
-core-kept w (list v a) = still-kept w _ (listing-still w (listWalk L w (windowOf (domains w) v)) a)
-
--- the pool is unchanged after every refusal
-pub refusal-keeps : (w : List ℕ) (c : Call) → Kept w (outcome w c)
+pub done : (w : List ℕ) (c : Call) → outcome w c .number ≡ 0 → T (begins w c) × (outcome w c ≡ core w c)
 unfolding outcome
-refusal-keeps w c = judge-both (Kept w) (tests w c) (lent w c) (core w c) (λ n. record { kept = λ h. lent-pool w c }) (core-kept w c)
-
--- check, find and list never change the pool
-pub check-still : (w : List ℕ) → Still w (outcome w check)
-unfolding outcome
-check-still w = judge-both (Still w) (tests w check) (lent w check) (core w check) (λ n. record { still = refl }) (record { still = refl })
-
-pub find-still : (w p : List ℕ) → Still w (outcome w (find p))
-unfolding outcome
-find-still w p =
-    judge-both (Still w) (tests w (find p)) (lent w (find p)) (core w (find p)) (λ n. record { still = refl }) (finding-still w (findWalk L w p) (lent w (find p)) refl)
-
-pub list-still : (w v a : List ℕ) → Still w (outcome w (list v a))
-unfolding outcome
-list-still w v a =
-    judge-both (Still w) (tests w (list v a)) (lent w (list v a)) (core w (list v a)) (λ n. record { still = refl })
-    (listing-still w (listWalk L w (windowOf (domains w) v)) a)
+done w c e = let h = all-held 0 (tests w c) (lent w c) (core w c) (never-0 (tests w c)) e in (h, goes-on w c h)
 
 -- two outcomes that keep one promise are equal
 pub promise-once : (w : List ℕ) (c : Call) (o p : Outcome) → Promise w c o → Promise w c p → o ≡ p

@@ -1,24 +1,22 @@
 -- What a call returns fits a word: on words below 2 ^ 32 every value is below 2 ^ 32. A location is a word of the pool, and the pages
 -- read and the records found are few.
-use mathlib.Core.Bool.{Bool, true, false, _&&_, cond}
+use mathlib.Core.Bool.{Bool, true, false, cond}
 use mathlib.Core.List.{List, [], _∷_, _++_}
-use mathlib.Core.Option.{Option, none, some}
 use mathlib.Core.Path.{_≡_, refl, ap}
 use Prim.Native.Nat.{ℕ, zero, suc, _+_, _-_, _*_, _^_, _<_, _≤_}
 use native.Mathlib.Nat.{div-le-self}
 use native.Mathlib.Omega.{arith}
-use lib.Dec.{T, ltb, eqb, leb→le}
+use lib.Dec.{ltb, eqb, leb→le}
 use lib.ListN.{length, take, drop, getD, length-append}
-use Rattle.kdb.specs.Lists.{Each, only, every, same}
+use Rattle.kdb.specs.Lists.{Each, only, same}
 use Rattle.kdb.specs.Box.{Box, Key, within, inWindow, meets}
-use Rattle.kdb.specs.Tree.{Rec, State}
+use Rattle.kdb.specs.Tree.{Rec}
 use Rattle.kdb.specs.Pages.{Ent, blank, points, regions, pointsPer, isPoints, recsIn, entsIn, readRecs, readEnts, readPage, page}
-use Rattle.kdb.specs.Pool.{domains, rootAt, levelsAt, pagesIn, view, goodLength, goodHeader, isPage}
+use Rattle.kdb.specs.Pool.{domains, rootAt, levelsAt, pagesIn, view, isPage}
 use Rattle.kdb.specs.Walk.{Spot, spots, Tour, still, astray, badAt, readAt, follow, through, goodPoints, goodRegions, tour, bounded, listWalk, End, rootless, bad, absent, here, Search, ends, into, spotOf, seek, findWalk}
-use Rattle.kdb.specs.Calls.{L, Call, format, check, place, remove, find, list, Buffers, lent, Outcome, refuses, Test, unless, judge, tests, core, begins, windowOf, placing, stepped, removing, finding, listing, outcome}
-use Rattle.kdb.proofs.Lists.{cases, and-l, and-r, only-most, each-take, each-drop}
-use Rattle.kdb.proofs.Walk.{at-page, list-length, find-length}
-use Rattle.kdb.proofs.Pool.{length-iff, header-iff}
+use Rattle.kdb.specs.Calls.{L}
+use Rattle.kdb.proofs.Lists.{cases, and-r, only-most, each-take, each-drop}
+use Rattle.kdb.proofs.Walk.{at-page}
 
 abbrev pub Word : ℕ → Type 0
 Word x = x < 2 ^ 32
@@ -37,7 +35,7 @@ each-get (x ∷ ws) (suc i) h = each-get ws i (h .1)
 abbrev Sited : Rec → Type 0
 Sited r = Word (r .loc)
 
-abbrev SitedSpot : Spot → Type 0
+abbrev pub SitedSpot : Spot → Type 0
 SitedSpot s = Sited (s .rec)
 
 recs-sited : (k n : ℕ) (ws : List ℕ) → Each Word ws → Each Sited (readRecs k n ws)
@@ -58,7 +56,7 @@ spots-sited j i [] h = tt
 spots-sited j i (r ∷ rs) h = (h .0, spots-sited j (suc i) rs (h .1))
 
 -- where find ends, the location is a word
-abbrev SitedEnd : End → Type 0
+abbrev pub SitedEnd : End → Type 0
 SitedEnd rootless = Unit {0}
 SitedEnd bad = Unit {0}
 SitedEnd (absent j) = Unit {0}
@@ -75,7 +73,7 @@ into-sited below p h (e ∷ es) =
     cases (λ b. SitedEnd (cond b (below (e .child)) (into below p es) .end)) (within (e .box) p) (λ _. h (e .child)) (λ _. into-sited below p h es)
 
 -- the records found are at most 28 for each page read
-abbrev Few : Tour → Type 0
+abbrev pub Few : Tour → Type 0
 Few t = length (t .found) ≤ 28 * length (t .read)
 
 follow-few : (a b : Tour) → Few a → Few b → Few (follow a b)
@@ -107,7 +105,7 @@ module _ (w : List ℕ) where
       at-page (λ (s : Search). SitedEnd (s .end)) (isPage L w j) (goodRegions L w j) _ _ _
       (λ _. into-sited (seek L w p n) p (seek-sited p h n) (entsIn (view L w j))) (λ _. tt) tt
 
-  find-sited : (p : Key) → Each Word w → SitedEnd (findWalk L w p .end)
+  pub find-sited : (p : Key) → Each Word w → SitedEnd (findWalk L w p .end)
   find-sited p h =
       cases (λ b. SitedEnd (cond b (ends [] rootless) (seek L w p (levelsAt w - 1) (rootAt w)) .end)) (eqb (levelsAt w) 0)
       (λ _. tt) (λ _. seek-sited p h (levelsAt w - 1) (rootAt w))
@@ -124,66 +122,10 @@ module _ (w : List ℕ) where
       at-page Few (isPage L w j) (goodRegions L w j) _ _ _
       (λ _. omega (arith, through-few (tour L w v n) v (tour-few v n) (entsIn (view L w j)))) (λ _. omega arith) (omega arith)
 
-  list-few : (v : Box) → Few (listWalk L w v)
+  pub list-few : (v : Box) → Few (listWalk L w v)
   list-few v =
       let N = pagesIn L w in
       let t = tour L w v (levelsAt w - 1) (rootAt w) in
       cases (λ b. Few (cond b still (bounded L w N t))) (eqb (levelsAt w) 0) (λ _. omega arith)
       (λ _. cases (λ b. Few (cond b t (record { read = take (N - 1) (t .read); bad = true; found = [] }))) (ltb (length (t .read)) N)
       (λ _. tour-few v (levelsAt w - 1) (rootAt w)) (λ _. omega arith))
-
--- a property of every refusal, and of what the call does once its tests hold
-judge-after : (P : Outcome → Type 0) (ts : List Test) (b : Buffers) (o : Outcome) → ((n : ℕ) → P (refuses n b)) → (T (every (λ t. t .holds) ts) → P o)
-    → P (judge ts b o)
-judge-after P [] b o r d = d tt
-judge-after P (t ∷ ts) b o r d = go (t .holds) d (judge-after P ts b o r)
-  where
-    go : (h : Bool) → (T (h && every (λ t. t .holds) ts) → P o) → ((T (every (λ t. t .holds) ts) → P o) → P (judge ts b o)) → P (unless h (t .refusal) b (judge ts b o))
-    go true d i = i d
-    go false d i = r (t .refusal)
-
--- every value that is returned fits a word
-abbrev pub Fits : Outcome → Type 0
-Fits o = Each Word (o .values)
-
-core-fits : (w : List ℕ) (c : Call) → Each Word w → T (begins w c) → Fits (core w c)
-core-fits w (format k) h s = tt
-core-fits w check h s = tt
-core-fits w (place work p l) h s = go (stepped w (record { key = p; loc = l }))
-  where
-    go : (s : Option State) → Fits (placing s w)
-    go none = tt
-    go (some s) = tt
-core-fits w (remove p) h s = go (findWalk L w p .end) (find-sited w p h)
-  where
-    go : (e : End) → SitedEnd e → Fits (removing e w p)
-    go rootless i = tt
-    go bad i = tt
-    go (absent j) i = tt
-    go (here s) i = (i, tt)
-core-fits w (find p) h s =
-    let long = length-iff L w .0 (and-l (goodLength L w) _ s) in
-    let head = header-iff L w .0 (and-l (goodHeader L w) _ (and-r (goodLength L w) _ s)) in
-    go (findWalk L w p .read) (findWalk L w p .end) (find-sited w p h) (omega (arith, find-length L w p))
-  where
-    go : (read : List ℕ) (e : End) → SitedEnd e → Word (length read) → Fits (finding (ends read e) (lent w (find p)))
-    go read rootless i r = tt
-    go read bad i r = tt
-    go read (absent j) i r = tt
-    go read (here s) i r = (i, (r, tt))
-core-fits w (list v answer) h s =
-    let long = length-iff L w .0 (and-l (goodLength L w) _ s) in
-    let few = list-length L w (windowOf (domains w) v) in
-    go (listWalk L w (windowOf (domains w) v) .bad) (omega (arith, list-few w (windowOf (domains w) v))) (omega arith)
-  where
-    t : Tour
-    t = listWalk L w (windowOf (domains w) v)
-
-    go : (m : Bool) → Word (length (t .found)) → Word (length (t .read)) → Fits (listing (record { read = t .read; bad = m; found = t .found }) w answer)
-    go true f r = tt
-    go false f r = (f, (r, tt))
-
--- on words below 2 ^ 32, every call
-pub outcome-fits : (w : List ℕ) (c : Call) → Each Word w → Fits (outcome w c)
-unfolding outcome
-outcome-fits w c h = judge-after Fits (tests w c) (lent w c) (core w c) (λ n. tt) (core-fits w c h)

@@ -1,7 +1,7 @@
 -- A formatted pool is the printed form of the state with no tree; and its words one by one.
 use mathlib.Core.List.{List, [], _∷_, _++_}
 use mathlib.Core.Option.{none}
-use mathlib.Core.Path.{_≡_, refl, sym, ap, ap₂, _∙_, subst}
+use mathlib.Core.Path.{_≡_, refl, sym, ap, ap₂, _∙_}
 use Prim.Native.Nat.{ℕ, zero, suc, _+_, _-_, _*_, _≤_}
 use native.Mathlib.Omega.{arith}
 use native.Mathlib.Nat.{mul-suc, mul-zero}
@@ -12,11 +12,10 @@ use Rattle.kdb.specs.Pages.{blank, printPage}
 use Rattle.kdb.specs.Shape.{WellFormed}
 use Rattle.kdb.specs.Pool.{pagesIn, goodLength}
 use Rattle.kdb.specs.Print.{printed}
-use Rattle.kdb.specs.Calls.{L, format, goodDomains, formatted, outcome}
+use Rattle.kdb.specs.Calls.{L, goodDomains, formatted}
 use Rattle.kdb.specs.Demands.{Formatted}
 use Rattle.kdb.proofs.Lists.{and-l, and-r}
 use Rattle.kdb.proofs.Pool.{length-iff}
-use Rattle.kdb.proofs.Calls.{done}
 
 pad-none : (n : ℕ) → pad n [] ≡ replicate n 0
 pad-none zero = refl
@@ -52,12 +51,10 @@ no-words zero i = refl
 no-words (suc n) zero = refl
 no-words (suc n) (suc i) = no-words n i
 
-pub formatted-is : (w : List ℕ) (k : ℕ) → outcome w (format k) .number ≡ 0 → Formatted w k (outcome w (format k) .after .pool)
-formatted-is w k z =
-    let d = done w (format k) z in
-    let g = length-iff L w .0 (and-l (goodLength L w) _ (d .0)) in
-    subst (Formatted w k) (sym (ap (λ o. o .after .pool) (d .1)))
-    (record { long = omega (arith, length-replicate {A = ℕ} (length w - 2) 0, g .long, g .least); domains = refl; pages = sym (g .long); zeros = later })
+pub formatted-is : (w : List ℕ) (k : ℕ) → T (goodLength L w) → Formatted w k (formatted w k)
+formatted-is w k h =
+    let g = length-iff L w .0 h in
+    record { long = omega (arith, length-replicate {A = ℕ} (length w - 2) 0, g .long, g .least); domains = refl; pages = sym (g .long); zeros = later }
   where
     later : (i : ℕ) → 2 ≤ i → getD (formatted w k) i 0 ≡ 0
     later zero h = absurd (omega arith)

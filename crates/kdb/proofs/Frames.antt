@@ -10,7 +10,9 @@ use lib.ListN.{length}
 use borrow.Author.Tests.{lt-leb}
 use Rattle.kdb.specs.Lists.{every}
 use Rattle.kdb.specs.Pool.{goodLength}
-use Rattle.kdb.specs.Calls.{L, format, place, Buffers, lent, Outcome, gives, refuses, Test, unless, judge, tests, goodDomains, formatted, placing, stepped, outcome}
+use Rattle.kdb.specs.declared.Refusal.{Refusal}
+use Rattle.kdb.specs.declared.Refusal.the-variants.{PoolLength, Domains}
+use Rattle.kdb.specs.Calls.{L, format, place, Buffers, alone, lent, Outcome, gives, refuses, Test, unless, judge, tests, goodDomains, formatted, placing, stepped, outcome}
 use Rattle.kdb.specs.Frames.{unknown, newOf, Reply, refusal, renewed, lines, reply}
 use Rattle.kdb.proofs.Lists.{and-l, and-r, is-false}
 
@@ -18,7 +20,7 @@ use Rattle.kdb.proofs.Lists.{and-l, and-r, is-false}
 abbrev pub apartWork : Outcome → Outcome
 apartWork o = record { number = o .number; values = o .values; after = record { pool = o .after .pool; work = []; answer = o .after .answer } }
 
-judge-apart : (ts : List Test) (b c : Buffers) (o : Outcome) → ((n : ℕ) → apartWork (refuses n b) ≡ apartWork (refuses n c)) → apartWork (judge ts b o) ≡ apartWork (judge ts c o)
+judge-apart : (ts : List Test) (b c : Buffers) (o : Outcome) → ((r : Refusal) → apartWork (refuses r b) ≡ apartWork (refuses r c)) → apartWork (judge ts b o) ≡ apartWork (judge ts c o)
 judge-apart [] b c o h = refl
 judge-apart (t ∷ ts) b c o h = go (t .holds) (judge-apart ts b c o h)
   where
@@ -38,7 +40,7 @@ place-work w p l a b e =
 -- a format of words x that makes z of them, by its two tests
 abbrev formats : List ℕ → ℕ → Bool → Bool → List ℕ → List ℕ → Reply
 formats u k s t z x =
-    let old = lent x (format k) in renewed u (unless s 1 old (unless t 2 old (gives [] (record { pool = z; work = []; answer = [] }))))
+    let old = lent x (format k) in renewed u (unless s PoolLength old (unless t Domains old (gives [] (alone z))))
 
 formats-old : (u : List ℕ) (k : ℕ) (s t : Bool) (z x y : List ℕ) → formats u k s t z x ≡ formats u k s t z y
 formats-old u k true true z x y = refl

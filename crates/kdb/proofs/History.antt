@@ -9,8 +9,8 @@ use Rattle.kdb.specs.Lists.{bit, tally, same}
 use Rattle.kdb.specs.Box.{Key}
 use Rattle.kdb.specs.Tree.{Rec}
 use Rattle.kdb.specs.Steps.{without}
-use Rattle.kdb.specs.Calls.{Call, format, check, place, remove, find, list, Outcome, outcome}
-use Rattle.kdb.specs.History.{answerOf, run, answers, changed, Keeps, over, next}
+use Rattle.kdb.specs.Calls.{Call, Outcome, Effect, unchanged, emptied, added, dropped, row, outcome}
+use Rattle.kdb.specs.History.{answerOf, run, answers, change, changed, Keeps, over, next}
 use Rattle.kdb.specs.Demands.{SameRecords, keyed}
 use Rattle.kdb.proofs.Lists.{and-l, tally-append, tally-imp}
 
@@ -25,20 +25,19 @@ without-tally p g (r ∷ rs) h = go (same p (r .key)) h (without-tally p g rs)
     go true h i = omega (arith, tally-imp (λ r. same p (r .key) && g r) (keyed p) (λ a t. and-l (same p (a .key)) (g a) t) rs)
     go false h i = omega (arith, i (omega arith))
 
--- one call changes two lists of the same records alike
-pub changed-same : (n : ℕ) (c : Call) (a b : List Rec) → ((p : Key) → tally (keyed p) a ≤ 1) → SameRecords a b → SameRecords (changed n c a) (changed n c b)
-changed-same (suc n) c a b once e = e
-changed-same zero (format k) a b once e = λ g. refl
-changed-same zero check a b once e = e
-changed-same zero (place work p l) a b once e = λ g.
-    let q : List Rec = record { key = p; loc = l } ∷ [] in
-    omega (arith, e g, tally-append g a q, tally-append g b q)
-changed-same zero (remove p) a b once e = λ g.
+-- one effect changes two lists of the same records alike
+change-same : (e : Effect) (a b : List Rec) → ((p : Key) → tally (keyed p) a ≤ 1) → SameRecords a b → SameRecords (change e a) (change e b)
+change-same unchanged a b once e = e
+change-same (emptied k) a b once e = λ g. refl
+change-same (added q) a b once e = λ g. omega (arith, e g, tally-append g a (q ∷ []), tally-append g b (q ∷ []))
+change-same (dropped p) a b once e = λ g.
     let x = without-tally p g a (once p) in
     let y = without-tally p g b (omega (arith, once p, e (keyed p))) in
     omega (arith, e g, e (λ r. same p (r .key) && g r))
-changed-same zero (find p) a b once e = e
-changed-same zero (list v s) a b once e = e
+
+pub changed-same : (n : ℕ) (c : Call) (a b : List Rec) → ((p : Key) → tally (keyed p) a ≤ 1) → SameRecords a b → SameRecords (changed n c a) (changed n c b)
+changed-same zero c a b once e = change-same (row c .effect) a b once e
+changed-same (suc n) c a b once e = e
 
 -- any code whose calls keep their promises runs as the definitions do
 pub keeps-run : {w v : List ℕ} {cs : List Call} {os : List Outcome} → Keeps w cs os v → (v ≡ run w cs) × (map answerOf os ≡ answers w cs)

@@ -15,9 +15,11 @@ pub mod Print
 pub mod Walk
 pub mod Bad
 pub mod Fits
-pub mod Local
 pub mod History
 pub mod Answers
+pub mod Effects
+pub mod Lawful
+pub mod Local
 pub mod Demands
 pub mod Refusals
 pub mod Pool

@@ -9,13 +9,15 @@ use lib.Dec.{T, leb, ltb, eqb, leb→le, nleb→lt, ltb→lt, nltb→le}
 use lib.ListN.{length, take, drop, getD, length-take, length-append}
 use lib.Seq.{take-all, take-append-le, getD-take, getD-drop}
 use borrow.Author.Tests.{le-ltb}
-use Rattle.kdb.specs.Lists.{only, every, many}
+use Rattle.kdb.specs.Lists.{only, many}
 use Rattle.kdb.specs.Box.{Box, Key, within, meets, inWindow}
 use Rattle.kdb.specs.Pages.{Ent, Page, blank, recsIn, entsIn, isPoints, isRegions, pointsPer, regionsPer, readPage, page}
 use Rattle.kdb.specs.Pool.{domains, rootAt, levelsAt, pagesIn, view, goodLength, goodHeader, isPage}
-use Rattle.kdb.specs.Walk.{Spot, spots, Tour, still, astray, badAt, readAt, follow, through, goodPoints, goodRegions, tour, bounded, listWalk, End, rootless, bad, absent, here, Search, ends, after, spotOf, into, seek, findWalk}
-use Rattle.kdb.specs.Calls.{Call, format, check, place, remove, find, list, Buffers, Outcome, Test, _or_, unless, judge, tests, core, finding, listing, lent, finite, ordered, outcome, windowOf, begins, walkOf}
+use Rattle.kdb.specs.Walk.{spots, Tour, still, astray, badAt, readAt, follow, through, goodPoints, goodRegions, tour, bounded, listWalk, rootless, bad, here, Search, ends, after, spotOf, into, seek, findWalk}
+use Rattle.kdb.specs.Calls.{L, Call, Buffers, Outcome, Test, unless, judge, allHold, tests, core, lent, outcome, begins, Route, noWalk, toPoint, overWindow, row, readOn, walkOf}
 use Rattle.kdb.specs.Demands.{Agree, Told, walks, Local}
+use Rattle.kdb.proofs.Walk.{walk-begun}
+use Rattle.kdb.proofs.Lawful.{SameWalk, SameRow, lawful}
 use Rattle.kdb.proofs.Lists.{and-i, bool, cases, is-true, self, tally-front, take-past, take-less, many-append}
 
 -- the walks begin with the same m + 1 pages and, if the first reads no more than m, are the same
@@ -236,8 +238,7 @@ same-header L w w′ l h f =
     let e3 : levelsAt w′ ≡ levelsAt w = f 3 (omega arith) in
     rw (h, l, e, e1, e2, e3)
 
-judge-told : (ts : List Test) (b b′ : Buffers) (o o′ : Outcome) → b′ .answer ≡ b .answer → (T (every (λ t. t .holds) ts) → Told o o′)
-    → Told (judge ts b o) (judge ts b′ o′)
+judge-told : (ts : List Test) (b b′ : Buffers) (o o′ : Outcome) → b′ .answer ≡ b .answer → (T (allHold ts) → Told o o′) → Told (judge ts b o) (judge ts b′ o′)
 judge-told [] b b′ o o′ d f = f tt
 judge-told (t ∷ ts) b b′ o o′ d f = go (t .holds) (λ h. judge-told ts b b′ o o′ d (λ i. f (and-i (t .holds) _ h i)))
   where
@@ -245,106 +246,45 @@ judge-told (t ∷ ts) b b′ o o′ d f = go (t .holds) (λ h. judge-told ts b b
     go true i = i tt
     go false i = record { number = refl; values = refl; answer = d }
 
-finding-told : (read : List ℕ) (e : End) (b b′ : Buffers) → b′ .answer ≡ b .answer → Told (finding (ends read e) b) (finding (ends read e) b′)
-finding-told read rootless b b′ d = record { number = refl; values = refl; answer = d }
-finding-told read bad b b′ d = record { number = refl; values = refl; answer = d }
-finding-told read (absent j) b b′ d = record { number = refl; values = refl; answer = d }
-finding-told read (here s) b b′ d = record { number = refl; values = refl; answer = d }
+-- pools that agree on a walk's pages have the same walk
+route-same : (w w′ : List ℕ) (r : Route) → Agree L w w′ (readOn w r) → SameWalk w w′ r
+route-same w w′ noWalk a = tt
+route-same w w′ (toPoint p) a = find-same L (omega arith) w w′ p a
+route-same w w′ (overWindow v) a = list-same L (omega arith) w w′ v a
 
-listing-told : (read : List ℕ) (z : Bool) (found : List Spot) (w w′ answer : List ℕ)
-    → Told (listing (record { read = read; bad = z; found = found }) w answer) (listing (record { read = read; bad = z; found = found }) w′ answer)
-listing-told read true found w w′ answer = record { number = refl; values = refl; answer = refl }
-listing-told read false found w w′ answer = record { number = refl; values = refl; answer = refl }
+read-same : (w w′ : List ℕ) (r : Route) → SameWalk w w′ r → readOn w′ r ≡ readOn w r
+read-same w w′ noWalk s = refl
+read-same w w′ (toPoint p) s = ap (λ g. g .read) s
+read-same w w′ (overWindow v) s = ap (λ t. t .read) s
 
-module _ (w w′ : List ℕ) where
-  -- the pages of a walk that begins
-  begun : (b : Bool) (read : List ℕ) → T b → Agree 32 w w′ (cond b read []) → Agree 32 w w′ read
-  begun true read t a = a
-  begun false read t a = absurd t
+-- a call with a walk, on pools that agree on its pages
+module _ (w w′ : List ℕ) (c : Call) (t : T (walks (row c .route w))) (a : Agree L w w′ (walkOf w c)) where
+  word : (i : ℕ) → i < 4 → getD w′ i 0 ≡ getD w i 0
+  word = agree-word L (omega arith) w w′ (walkOf w c) a
 
-  module _ (read : List ℕ) (a : Agree 32 w w′ read) where
-    word : (i : ℕ) → i < 4 → getD w′ i 0 ≡ getD w i 0
-    word = agree-word 32 (omega arith) w w′ read a
+  alike : SameRow w w′ c
+  alike = lawful c .alike w w′ t (word 0 (omega arith))
 
-    long-same : goodLength 32 w′ ≡ goodLength 32 w
-    long-same = same-length 32 w w′ (a .long)
+  -- is tested alike
+  tests-same : tests w′ c ≡ tests w c
+  tests-same = rw (same-length L w w′ (a .long), same-header L w w′ (a .long) (a .header) word, alike .fits, alike .own)
 
-    header-same : goodHeader 32 w′ ≡ goodHeader 32 w
-    header-same = same-header 32 w w′ (a .long) (a .header) word
+  walk-same : T (begins w c) → SameWalk w w′ (row c .route w)
+  walk-same h = route-same w w′ (row c .route w) (subst (Agree L w w′) (walk-begun w c h) a)
 
-    domains-same : domains w′ ≡ domains w
-    domains-same = word 0 (omega arith)
+  -- and has the same walk
+  walk-local : walkOf w′ c ≡ walkOf w c
+  walk-local =
+      ap₂ (λ ts r. cond (allHold ts) (readOn w′ r) []) tests-same (alike .route)
+      ∙ cases (λ b. (T b → SameWalk w w′ (row c .route w)) → cond b (readOn w′ (row c .route w)) [] ≡ cond b (readOn w (row c .route w)) []) (begins w c)
+      (λ _ f. read-same w w′ (row c .route w) (f tt)) (λ _ _. refl) walk-same
 
-  -- a call with a walk is tested alike
-  tests-same : (c : Call) → T (walks c) → Agree 32 w w′ (walkOf w c) → tests w′ c ≡ tests w c
-  tests-same (format k) t a = absurd t
-  tests-same check t a = absurd t
-  tests-same (place work p l) t a = absurd t
-  tests-same (remove p) t a = absurd t
-  tests-same (find p) t a =
-      let r = walkOf w (find p) in
-      ap₂ (λ x y. (x or 1) ∷ (y or 6) ∷ (eqb (length p) (domains w′) or 3) ∷ (finite p or 4) ∷ []) (long-same r a) (header-same r a)
-      ∙ ap (λ k. (goodLength 32 w or 1) ∷ (goodHeader 32 w or 6) ∷ (eqb (length p) k or 3) ∷ (finite p or 4) ∷ []) (domains-same r a)
-  tests-same (list v answer) t a =
-      let r = walkOf w (list v answer) in
-      ap₂ (λ x y. (x or 1) ∷ (y or 6) ∷ (eqb (length v) (2 * domains w′) or 3) ∷ (finite v or 4) ∷ (ordered (windowOf (domains w′) v) or 5) ∷ []) (long-same r a) (header-same r a)
-      ∙ ap (λ k. (goodLength 32 w or 1) ∷ (goodHeader 32 w or 6) ∷ (eqb (length v) (2 * k) or 3) ∷ (finite v or 4) ∷ (ordered (windowOf k v) or 5) ∷ []) (domains-same r a)
-
-  begins-same : (c : Call) → T (walks c) → Agree 32 w w′ (walkOf w c) → begins w′ c ≡ begins w c
-  begins-same c t a = ap (every (λ t. t .holds)) (tests-same c t a)
-
-  found-same : (p : Key) → T (begins w (find p)) → Agree 32 w w′ (walkOf w (find p)) → findWalk 32 w′ p ≡ findWalk 32 w p
-  found-same p t a = find-same 32 (omega arith) w w′ p (begun (begins w (find p)) _ t a)
-
-  listed-same : (v answer : List ℕ) → T (begins w (list v answer)) → Agree 32 w w′ (walkOf w (list v answer))
-      → listWalk 32 w′ (windowOf (domains w′) v) ≡ listWalk 32 w (windowOf (domains w) v)
-  listed-same v answer t a =
-      ap (λ k. listWalk 32 w′ (windowOf k v)) (domains-same (walkOf w (list v answer)) a)
-      ∙ list-same 32 (omega arith) w w′ (windowOf (domains w) v) (begun (begins w (list v answer)) _ t a)
-
-  -- the walk depends on length, header and the pages of the walk alone
-  pub walk-local : (c : Call) → Agree 32 w w′ (walkOf w c) → walkOf w′ c ≡ walkOf w c
-  walk-local (format k) a = refl
-  walk-local check a = refl
-  walk-local (place work p l) a = refl
-  walk-local (remove p) a = refl
-  walk-local (find p) a =
-      ap (λ b. cond b (findWalk 32 w′ p .read) []) (begins-same (find p) tt a)
-      ∙ cases (λ b. (T b → findWalk 32 w′ p ≡ findWalk 32 w p) → cond b (findWalk 32 w′ p .read) [] ≡ cond b (findWalk 32 w p .read) []) (begins w (find p))
-      (λ _ f. ap (λ s. s .read) (f tt)) (λ _ _. refl) (λ t. found-same p t a)
-  walk-local (list v answer) a =
-      let t′ = listWalk 32 w′ (windowOf (domains w′) v) in
-      let t = listWalk 32 w (windowOf (domains w) v) in
-      ap (λ b. cond b (t′ .read) []) (begins-same (list v answer) tt a)
-      ∙ cases (λ b. (T b → t′ ≡ t) → cond b (t′ .read) [] ≡ cond b (t .read) []) (begins w (list v answer))
-      (λ _ f. ap (λ s. s .read) (f tt)) (λ _ _. refl) (λ h. listed-same v answer h a)
-
-  core-told : (c : Call) → T (walks c) → Agree 32 w w′ (walkOf w c) → T (begins w c) → Told (core w c) (core w′ c)
-  core-told (format k) t a h = absurd t
-  core-told check t a h = absurd t
-  core-told (place work p l) t a h = absurd t
-  core-told (remove p) t a h = absurd t
-  core-told (find p) t a h =
-      subst (λ s. Told (finding (findWalk 32 w p) (lent w (find p))) (finding s (lent w′ (find p)))) (sym (found-same p h a))
-      (finding-told (findWalk 32 w p .read) (findWalk 32 w p .end) (lent w (find p)) (lent w′ (find p)) refl)
-  core-told (list v answer) t a h =
-      let s = listWalk 32 w (windowOf (domains w) v) in
-      subst (λ s′. Told (listing s w answer) (listing s′ w′ answer)) (sym (listed-same v answer h a)) (listing-told (s .read) (s .bad) (s .found) w w′ answer)
-
-  lent-answer : (c : Call) → lent w′ c .answer ≡ lent w c .answer
-  lent-answer (format k) = refl
-  lent-answer check = refl
-  lent-answer (place work p l) = refl
-  lent-answer (remove p) = refl
-  lent-answer (find p) = refl
-  lent-answer (list v answer) = refl
-
-  -- and so do the number, the values and the answer buffer
-  pub told-local : (c : Call) → T (walks c) → Agree 32 w w′ (walkOf w c) → Told (outcome w c) (outcome w′ c)
+  -- and so are the number, the values and the answer buffer
+  told-local : Told (outcome w c) (outcome w′ c)
   unfolding outcome
-  told-local c t a =
-      subst (λ ts. Told (judge (tests w c) (lent w c) (core w c)) (judge ts (lent w′ c) (core w′ c))) (sym (tests-same c t a))
-      (judge-told (tests w c) (lent w c) (lent w′ c) (core w c) (core w′ c) (lent-answer c) (core-told c t a))
+  told-local =
+      subst (λ ts. Told (judge (tests w c) (lent w c) (core w c)) (judge ts (lent w′ c) (core w′ c))) (sym tests-same)
+      (judge-told (tests w c) (lent w c) (lent w′ c) (core w c) (core w′ c) (alike .answer) (λ h. alike .told (walk-same h)))
 
 pub local : (w w′ : List ℕ) → Local w w′
-local w w′ c t a = (walk-local w w′ c a, told-local w w′ c t a)
+local w w′ c t a = (walk-local w w′ c t a, told-local w w′ c t a)

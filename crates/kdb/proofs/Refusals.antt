@@ -6,103 +6,34 @@ use mathlib.Core.Option.{Option, none, some}
 use mathlib.Core.Path.{_≡_, refl, sym, ap, _∙_, subst}
 use Prim.Native.Nat.{ℕ, zero, suc, _-_, _≤_, _<_}
 use native.Mathlib.Omega.{arith}
-use lib.Dec.{T, leb, eqb, leb→le, le→leb, eqb→eq, T-not}
-use lib.ListN.{length, take, getD, replicate, length-append}
+use lib.Dec.{T, leb, ltb, eqb, leb→le, le→leb, eqb→eq, ltb→lt}
+use lib.ListN.{length, take, replicate, length-append}
 use mathlib.Core.Logic.{_↔_}
-use borrow.Author.Tests.{eq-eqb}
+use borrow.Author.Tests.{eq-eqb, ne-eqb}
 use Rattle.kdb.specs.Lists.{only, every, tally, upFrom, same, lastOr}
 use Rattle.kdb.specs.Tree.{Rec, State, records, recordsOf, pagesOf}
-use Rattle.kdb.specs.Steps.{freeOf, removed}
+use Rattle.kdb.specs.Steps.{freeOf}
 use Rattle.kdb.specs.Pages.{regionsPer, pointsPer, recsIn}
-use Rattle.kdb.specs.Shape.{WellFormed}
-use Rattle.kdb.specs.Pool.{domains, pagesIn, goodLength, goodHeader, GoodLength, GoodHeader, view, Sound}
-use Rattle.kdb.specs.Print.{printed, stateOf, sound}
-use Rattle.kdb.specs.Walk.{Spot, Tour, End, rootless, bad, absent, here, Search, ends, findWalk, listWalk}
-use Rattle.kdb.specs.Calls.{L, Call, format, check, place, remove, find, list, Outcome, Buffers, Test, goodDomains, finite, ordered, windowOf, present, placing, removing, finding, listing, stepped, outcome, begins, walkOf, unless, judge, _or_, lent, tests, core}
+use Rattle.kdb.specs.Pool.{domains, pagesIn, goodLength, goodHeader, view, Sound}
+use Rattle.kdb.specs.Print.{stateOf, sound}
+use Rattle.kdb.specs.Walk.{Spot, Tour, End, rootless, bad, absent, here, ends, findWalk, listWalk}
+use Rattle.kdb.specs.declared.Refusal.the-variants.{PoolLength, Domains, BufferLength, InfiniteKey, WindowOrder, Unsound, Present}
+use Rattle.kdb.specs.Calls.{L, Call, format, check, place, remove, find, list, Outcome, Buffers, Test, goodDomains, finite, ordered, windowOf, present, placing, removing, finding, listing, stepped, outcome, begins, walkOf, unless, judge, _or_, lent, tests, core, allHold, headTests, numberOf, row, emptied}
 use Rattle.kdb.specs.Bad.{listTrail, findStops, listStops, listRecords}
-use Rattle.kdb.specs.Demands.{keyed, goodPoint, fitting, endsOf, headed, Headed, Taken, New, lastRecords, slotted, Demand1, SameSize, Leaves}
+use Rattle.kdb.specs.Demands.{keyed, goodPoint, givenTo, headed, fitting, endsIn, Headed, Taken, New, lastRecords, slotted, Demand1, SameSize, Leaves}
 use Rattle.kdb.proofs.Lists.{and-l, and-r, and-i, same-refl, In, is-true, of-true, tally-imp, length-upFrom}
 use Rattle.kdb.proofs.Stands.{Stands}
 use Rattle.kdb.proofs.Pool.{length-iff, header-iff, sound-iff, Sound-stands}
 use Rattle.kdb.proofs.Walk.{walk-find}
-use Rattle.kdb.proofs.Print.{print-length, print-word}
-use Rattle.kdb.proofs.Format.{formatted-is}
 use Rattle.kdb.proofs.Bad.{find-six, find-eight, find-done, find-located, list-six, list-done, list-told}
-use Rattle.kdb.proofs.Grow.{roomy-32, removed-formed, key-once, Placing, claims, placed-none-iff}
+use Rattle.kdb.proofs.Grow.{roomy-32, key-once, Placing, claims, placed-none-iff}
 use Rattle.kdb.proofs.Wanting.{ample, wanting}
 use Rattle.kdb.proofs.Reading.{Answers, find-rootless, find-answers}
-use Rattle.kdb.proofs.Calls.{done, goes-on, judge-both, judge-past, refusal-keeps, check-still, find-still, list-still}
+use Rattle.kdb.proofs.Calls.{done, goes-on, judge-after, judge-past, judge-fails, avoids, all-held, given}
+use Rattle.kdb.proofs.Effects.{big, Passed, passed-within, place-placing, moves, kept-size, does-size}
+use Rattle.kdb.proofs.Lawful.{lawful, late, sizes, refusal-keeps, quiet, done-does}
 use Rattle.kdb.proofs.Answers.{one-located}
-use Rattle.kdb.proofs.Demands.{big, Passed, passed-within, place-placing, place-done, remove-steps, long-one}
-
--- no test of these gives refusal n
-abbrev avoids : ℕ → List Test → Bool
-avoids n ts = every (λ t. not (eqb n (t .refusal))) ts
-
--- the first test that fails gives its refusal
-fails : (ts us : List Test) (t : Test) (b : Buffers) (o : Outcome) → T (every (λ u. u .holds) ts) → (T (t .holds) → ⊥) → judge (ts ++ (t ∷ us)) b o .number ≡ t .refusal
-fails ts us t b o h n = ap (λ x. x .number) (judge-past ts (t ∷ us) b o h) ∙ go (t .holds) n
-  where
-    go : (x : Bool) → (T x → ⊥) → unless x (t .refusal) b (judge us b o) .number ≡ t .refusal
-    go true n = absurd (n tt)
-    go false n = refl
-
--- a number that neither these tests nor the call gives is not given; one that the tests do not give is the call's
-avoided : (n : ℕ) (us : List Test) (b : Buffers) (o : Outcome) → T (avoids n us) → (o .number ≡ n → ⊥) → judge us b o .number ≡ n → ⊥
-avoided n [] b o a d z = d z
-avoided n (u ∷ us) b o a d z = go (u .holds) (avoided n us b o (and-r (not (eqb n (u .refusal))) _ a) d) z
-  where
-    go : (x : Bool) → (judge us b o .number ≡ n → ⊥) → unless x (u .refusal) b (judge us b o) .number ≡ n → ⊥
-    go true i z = i z
-    go false i z = T-not (eqb n (u .refusal)) (and-l (not (eqb n (u .refusal))) _ a) (of-true _ (eq-eqb n (u .refusal) (sym z)))
-
-all-held : (n : ℕ) (us : List Test) (b : Buffers) (o : Outcome) → T (avoids n us) → judge us b o .number ≡ n → T (every (λ u. u .holds) us)
-all-held n [] b o a z = tt
-all-held n (u ∷ us) b o a z = go (u .holds) (all-held n us b o (and-r (not (eqb n (u .refusal))) _ a)) z
-  where
-    go : (x : Bool) → (judge us b o .number ≡ n → T (every (λ v. v .holds) us)) → unless x (u .refusal) b (judge us b o) .number ≡ n → T (x && every (λ v. v .holds) us)
-    go true i z = i z
-    go false i z = absurd (T-not (eqb n (u .refusal)) (and-l (not (eqb n (u .refusal))) _ a) (of-true _ (eq-eqb n (u .refusal) (sym z))))
-
--- a refusal of the table is given exactly if its test fails, where those before it hold and nothing later gives its number
-given : (ts us : List Test) (t : Test) (b : Buffers) (o : Outcome) → T (every (λ u. u .holds) ts) → T (avoids (t .refusal) us) → (o .number ≡ t .refusal → ⊥)
-    → (judge (ts ++ (t ∷ us)) b o .number ≡ t .refusal) ↔ (T (t .holds) → ⊥)
-given ts us t b o h a d = (
-  λ z y. avoided (t .refusal) us b o a d (sym (ap (λ x. x .number) (judge-past ts (t ∷ us) b o h ∙ ap (λ x. unless x (t .refusal) b (judge us b o)) (is-true (t .holds) y))) ∙ z),
-  fails ts us t b o h,
-)
-
--- once its tests hold, no call gives 1 to 5
-core-number : (w : List ℕ) (c : Call) (n : ℕ) → 1 ≤ n → n ≤ 5 → core w c .number ≡ n → ⊥
-core-number w (format k) n a b z = omega arith
-core-number w check n a b z = omega arith
-core-number w (place work p l) n a b z = go (stepped w (record { key = p; loc = l })) z
-  where
-    go : (s : Option State) → placing s w .number ≡ n → ⊥
-    go none z = omega arith
-    go (some s) z = omega arith
-core-number w (remove p) n a b z = go (findWalk L w p .end) z
-  where
-    go : (e : End) → removing e w p .number ≡ n → ⊥
-    go rootless z = omega arith
-    go bad z = omega arith
-    go (absent j) z = omega arith
-    go (here s) z = omega arith
-core-number w (find p) n a b z = go (findWalk L w p .read) (findWalk L w p .end) z
-  where
-    go : (r : List ℕ) (e : End) → finding (ends r e) (lent w (find p)) .number ≡ n → ⊥
-    go r rootless z = omega arith
-    go r bad z = omega arith
-    go r (absent j) z = omega arith
-    go r (here s) z = omega arith
-core-number w (list v answer) n a b z = go (listWalk L w (windowOf (domains w) v)) z
-  where
-    go : (t : Tour) → listing t w answer .number ≡ n → ⊥
-    go t z = by (t .bad) z
-      where
-        by : (m : Bool) → listing (record { read = t .read; bad = m; found = t .found }) w answer .number ≡ n → ⊥
-        by true z = omega arith
-        by false z = omega arith
+use Rattle.kdb.proofs.Demands.{long-one}
 
 -- 9 exactly if the steps would claim more pages than are free, once place has passed its tests
 pub nine-iff : (w work p : List ℕ) (l : ℕ) → T (begins w (place work p l))
@@ -160,7 +91,7 @@ check-six w t = (
   λ n. go (goodLength L w) (goodHeader L w) (sound L w) t (λ c. n (sound-iff L big w .0 c)),
 )
   where
-    go : (a b c : Bool) → T a → (T c → ⊥) → judge ((a or 1) ∷ (b or 6) ∷ (c or 6) ∷ []) (lent w check) (core w check) .number ≡ 6
+    go : (a b c : Bool) → T a → (T c → ⊥) → judge ((a or PoolLength) ∷ (b or Unsound) ∷ (true or BufferLength) ∷ (true or InfiniteKey) ∷ (c or Unsound) ∷ []) (lent w check) (core w check) .number ≡ 6
     go false b c t n = absurd t
     go true false c t n = refl
     go true true false t n = refl
@@ -168,14 +99,14 @@ check-six w t = (
 
 -- place's tests up to 7
 place-seven : (w work p : List ℕ) (l : ℕ) → Sound L w → T (goodPoint (domains w) p) → length work ≡ length w
-    → outcome w (place work p l) ≡ unless (not (present (findWalk L w p .end))) 7 (lent w (place work p l)) (core w (place work p l))
+    → outcome w (place work p l) ≡ unless (not (present (findWalk L w p .end))) Present (lent w (place work p l)) (core w (place work p l))
 unfolding outcome
 place-seven w work p l s h e =
     let i = eqb (length p) (domains w) in
     let j = eqb (length work) (length w) in
     judge-past
-    ((goodLength L w or 1) ∷ (goodHeader L w or 6) ∷ ((i && j) or 3) ∷ (finite p or 4) ∷ (sound L w or 6) ∷ [])
-    ((not (present (findWalk L w p .end)) or 7) ∷ []) (lent w (place work p l)) (core w (place work p l))
+    ((goodLength L w or PoolLength) ∷ (goodHeader L w or Unsound) ∷ ((i && j) or BufferLength) ∷ (finite p or InfiniteKey) ∷ (sound L w or Unsound) ∷ [])
+    ((not (present (findWalk L w p .end)) or Present) ∷ []) (lent w (place work p l)) (core w (place work p l))
     (and-i (goodLength L w) _ (s .words) (and-i (goodHeader L w) _ (s .header) (and-i (i && j) _ (and-i i j (and-l i _ h) (of-true j (eq-eqb (length work) (length w) e)))
     (and-i (finite p) _ (and-r i _ h) (and-i (sound L w) true (sound-iff L big w .1 s) tt)))))
 
@@ -183,7 +114,7 @@ placing-number : (w : List ℕ) (o : Option State) → placing o w .number ≡ 7
 placing-number w none z = omega arith
 placing-number w (some s) z = omega arith
 
-unless-seven : (t : Bool) (b : Buffers) (o : Outcome) → (o .number ≡ 7 → ⊥) → (unless (not t) 7 b o .number ≡ 7) ↔ T t
+unless-seven : (t : Bool) (b : Buffers) (o : Outcome) → (o .number ≡ 7 → ⊥) → (unless (not t) Present b o .number ≡ 7) ↔ T t
 unless-seven true b o n = (λ z. tt, λ t. refl)
 unless-seven false b o n = (λ z. absurd (n z), λ t. absurd t)
 
@@ -216,84 +147,80 @@ placing-zero : (w : List ℕ) (o : Option State) → (placing o w .number ≡ 9 
 placing-zero w none n = absurd (n refl)
 placing-zero w (some s) n = refl
 
--- the tables: every call but format has the same four first rows, then rows of its own
+-- the tests of a call that looks at the header, by what it is given
 module _ (w : List ℕ) where
-  abbrev later : Call → List Test
-  later (format k) = []
-  later check = (sound L w or 6) ∷ []
-  later (place work p l) = (sound L w or 6) ∷ (not (present (findWalk L w p .end)) or 7) ∷ []
-  later (remove p) = (sound L w or 6) ∷ []
-  later (find p) = []
-  later (list v answer) = (ordered (windowOf (domains w) v) or 5) ∷ []
-
   abbrev rows : Call → List Test
-  rows c = (goodLength L w or 1) ∷ (goodHeader L w or 6) ∷ (fitting w c or 3) ∷ (finite (endsOf c) or 4) ∷ later c
+  rows c = headTests w (fitting w (givenTo c)) (endsIn (givenTo c)) ++ row c .own w
 
-  by-rows : (c : Call) → T (headed c) → judge (rows c) (lent w c) (core w c) ≡ outcome w c
+  looks : (c : Call) → T (headed (givenTo c)) → row c .headed ≡ true
+  looks c y = sym (ap (λ x. x .0) (lawful c .takes w)) ∙ is-true (headed (givenTo c)) y
+
+  by-rows : (c : Call) → T (headed (givenTo c)) → judge (rows c) (lent w c) (core w c) ≡ outcome w c
   unfolding outcome
-  by-rows (format k) t = absurd t
-  by-rows check t = refl
-  by-rows (place work p l) t = refl
-  by-rows (remove p) t = refl
-  by-rows (find p) t = refl
-  by-rows (list v answer) t = refl
+  by-rows c y =
+      ap (λ x. judge (headTests w (x .1 .0) (x .1 .1) ++ row c .own w) (lent w c) (core w c)) (lawful c .takes w)
+      ∙ ap (λ x. judge (cond x (headTests w (row c .fits w) (row c .ends)) ((goodLength L w or PoolLength) ∷ []) ++ row c .own w) (lent w c) (core w c)) (sym (looks c y))
 
-  -- a row among them, told the rows before and after it
-  row : (c : Call) → T (headed c) → (ts us : List Test) (t : Test) → ts ++ (t ∷ us) ≡ rows c → T (every (λ u. u .holds) ts) → T (avoids (t .refusal) us)
-      → (core w c .number ≡ t .refusal → ⊥) → (outcome w c .number ≡ t .refusal) ↔ (T (t .holds) → ⊥)
-  row c y ts us t e h a d =
-      subst (λ o. (o .number ≡ t .refusal) ↔ (T (t .holds) → ⊥)) (ap (λ l. judge l (lent w c) (core w c)) e ∙ by-rows c y) (given ts us t (lent w c) (core w c) h a d)
+  -- a test among them, told the tests before and after it
+  row-of : (c : Call) → T (headed (givenTo c)) → (ts us : List Test) (t : Test) → ts ++ (t ∷ us) ≡ rows c → T (allHold ts) → T (avoids (numberOf (t .refusal)) us)
+      → (core w c .number ≡ numberOf (t .refusal) → ⊥) → (outcome w c .number ≡ numberOf (t .refusal)) ↔ (T (t .holds) → ⊥)
+  row-of c y ts us t e h a d =
+      subst (λ o. (o .number ≡ numberOf (t .refusal)) ↔ (T (t .holds) → ⊥)) (ap (λ l. judge l (lent w c) (core w c)) e ∙ by-rows c y) (given ts us t (lent w c) (core w c) h a d)
 
-  -- none of the later rows gives 1, 3 or 4
-  later-avoids : (c : Call) → T (avoids 1 (later c)) × T (avoids 3 (later c)) × T (avoids 4 (later c))
-  later-avoids (format k) = (tt, tt, tt)
-  later-avoids check = (tt, tt, tt)
-  later-avoids (place work p l) = (tt, tt, tt)
-  later-avoids (remove p) = (tt, tt, tt)
-  later-avoids (find p) = (tt, tt, tt)
-  later-avoids (list v answer) = (tt, tt, tt)
+  -- a call's own tests give none of the numbers before theirs
+  own-avoids : (c : Call) (n : ℕ) → n ≤ cond (row c .headed) 4 1 → T (avoids n (row c .own w))
+  own-avoids c n m = go (cond (row c .headed) 4 1) m (row c .own w) (late w c)
+    where
+      go : (k : ℕ) → n ≤ k → (us : List Test) → T (every (λ u. ltb k (numberOf (u .refusal))) us) → T (avoids n us)
+      go k m [] h = tt
+      go k m (u ∷ us) h =
+          and-i (not (eqb n (numberOf (u .refusal)))) _
+          (of-true (not (eqb n (numberOf (u .refusal)))) (ap not (ne-eqb n (numberOf (u .refusal)) (λ e. let l = ltb→lt k (numberOf (u .refusal)) (and-l (ltb k (numberOf (u .refusal))) _ h) in omega arith))))
+          (go k m us (and-r (ltb k (numberOf (u .refusal))) _ h))
 
-  headed-one : (c : Call) → T (headed c) → (outcome w c .number ≡ 1) ↔ (T (goodLength L w) → ⊥)
-  headed-one c y = row c y [] ((goodHeader L w or 6) ∷ (fitting w c or 3) ∷ (finite (endsOf c) or 4) ∷ later c) (goodLength L w or 1) refl tt (later-avoids c .0) (core-number w c 1 (omega arith) (omega arith))
+  headed-avoids : (c : Call) → T (headed (givenTo c)) → (n : ℕ) → n ≤ 4 → T (avoids n (row c .own w))
+  headed-avoids c y n m = own-avoids c n (subst (λ x. n ≤ cond x 4 1) (sym (looks c y)) m)
 
   one : (c : Call) → (outcome w c .number ≡ 1) ↔ (T (goodLength L w) → ⊥)
   unfolding outcome
-  one (format k) = given [] ((goodDomains k or 2) ∷ []) (goodLength L w or 1) (lent w (format k)) (core w (format k)) tt tt (core-number w (format k) 1 (omega arith) (omega arith))
-  one check = headed-one check tt
-  one (place work p l) = headed-one (place work p l) tt
-  one (remove p) = headed-one (remove p) tt
-  one (find p) = headed-one (find p) tt
-  one (list v answer) = headed-one (list v answer) tt
+  one c = go (row c .headed) (own-avoids c 1)
+    where
+      go : (x : Bool) → (1 ≤ cond x 4 1 → T (avoids 1 (row c .own w)))
+          → (judge (cond x (headTests w (row c .fits w) (row c .ends)) ((goodLength L w or PoolLength) ∷ []) ++ row c .own w) (lent w c) (core w c) .number ≡ 1) ↔ (T (goodLength L w) → ⊥)
+      go true a =
+          given [] ((goodHeader L w or Unsound) ∷ (row c .fits w or BufferLength) ∷ (finite (row c .ends) or InfiniteKey) ∷ row c .own w) (goodLength L w or PoolLength) (lent w c) (core w c) tt
+          (a (omega arith)) (lawful c .proper w .late 1 (omega arith) (omega arith))
+      go false a = given [] (row c .own w) (goodLength L w or PoolLength) (lent w c) (core w c) tt (a (omega arith)) (lawful c .proper w .late 1 (omega arith) (omega arith))
 
   two : (k : ℕ) → T (goodLength L w) → (outcome w (format k) .number ≡ 2) ↔ (T (goodDomains k) → ⊥)
   unfolding outcome
-  two k h = given ((goodLength L w or 1) ∷ []) [] (goodDomains k or 2) (lent w (format k)) (core w (format k)) (and-i (goodLength L w) true h tt) tt (core-number w (format k) 2 (omega arith) (omega arith))
+  two k h = given ((goodLength L w or PoolLength) ∷ []) [] (goodDomains k or Domains) (lent w (format k)) (core w (format k)) (and-i (goodLength L w) true h tt) tt (lawful (format k) .proper w .late 2 (omega arith) (omega arith))
 
-  header : (c : Call) → T (headed c) → T (goodLength L w) → (T (goodHeader L w) → ⊥) → outcome w c .number ≡ 6
+  header : (c : Call) → T (headed (givenTo c)) → T (goodLength L w) → (T (goodHeader L w) → ⊥) → outcome w c .number ≡ 6
   header c y h n =
       sym (ap (λ o. o .number) (by-rows c y))
-      ∙ fails ((goodLength L w or 1) ∷ []) ((fitting w c or 3) ∷ (finite (endsOf c) or 4) ∷ later c) (goodHeader L w or 6) (lent w c) (core w c) (and-i (goodLength L w) true h tt) n
+      ∙ ap (λ o. o .number) (judge-fails ((goodLength L w or PoolLength) ∷ []) ((fitting w (givenTo c) or BufferLength) ∷ (finite (endsIn (givenTo c)) or InfiniteKey) ∷ row c .own w) (goodHeader L w or Unsound) (lent w c) (core w c) (and-i (goodLength L w) true h tt) n)
 
-  three : (c : Call) → T (headed c) → Headed w → (outcome w c .number ≡ 3) ↔ (T (fitting w c) → ⊥)
+  three : (c : Call) → T (headed (givenTo c)) → Headed w → (outcome w c .number ≡ 3) ↔ (T (fitting w (givenTo c)) → ⊥)
   three c y h =
-      row c y ((goodLength L w or 1) ∷ (goodHeader L w or 6) ∷ []) ((finite (endsOf c) or 4) ∷ later c) (fitting w c or 3) refl
-      (and-i (goodLength L w) _ (length-iff L w .1 (h .long)) (and-i (goodHeader L w) true (header-iff L w .1 (h .header)) tt)) (later-avoids c .1) (core-number w c 3 (omega arith) (omega arith))
+      row-of c y ((goodLength L w or PoolLength) ∷ (goodHeader L w or Unsound) ∷ []) ((finite (endsIn (givenTo c)) or InfiniteKey) ∷ row c .own w) (fitting w (givenTo c) or BufferLength) refl
+      (and-i (goodLength L w) _ (length-iff L w .1 (h .long)) (and-i (goodHeader L w) true (header-iff L w .1 (h .header)) tt)) (headed-avoids c y 3 (omega arith)) (lawful c .proper w .late 3 (omega arith) (omega arith))
 
-  four : (c : Call) → T (headed c) → Headed w → T (fitting w c) → (outcome w c .number ≡ 4) ↔ (T (finite (endsOf c)) → ⊥)
+  four : (c : Call) → T (headed (givenTo c)) → Headed w → T (fitting w (givenTo c)) → (outcome w c .number ≡ 4) ↔ (T (finite (endsIn (givenTo c))) → ⊥)
   four c y h f =
-      row c y ((goodLength L w or 1) ∷ (goodHeader L w or 6) ∷ (fitting w c or 3) ∷ []) (later c) (finite (endsOf c) or 4) refl
-      (and-i (goodLength L w) _ (length-iff L w .1 (h .long)) (and-i (goodHeader L w) _ (header-iff L w .1 (h .header)) (and-i (fitting w c) true f tt))) (later-avoids c .2) (core-number w c 4 (omega arith) (omega arith))
+      row-of c y ((goodLength L w or PoolLength) ∷ (goodHeader L w or Unsound) ∷ (fitting w (givenTo c) or BufferLength) ∷ []) (row c .own w) (finite (endsIn (givenTo c)) or InfiniteKey) refl
+      (and-i (goodLength L w) _ (length-iff L w .1 (h .long)) (and-i (goodHeader L w) _ (header-iff L w .1 (h .header)) (and-i (fitting w (givenTo c)) true f tt))) (headed-avoids c y 4 (omega arith)) (lawful c .proper w .late 4 (omega arith) (omega arith))
 
   -- the four first rows hold
-  four-held : (c : Call) → Taken w c → T (every (λ u. u .holds) ((goodLength L w or 1) ∷ (goodHeader L w or 6) ∷ (fitting w c or 3) ∷ (finite (endsOf c) or 4) ∷ []))
+  four-held : (c : Call) → Taken w c → T (allHold ((goodLength L w or PoolLength) ∷ (goodHeader L w or Unsound) ∷ (fitting w (givenTo c) or BufferLength) ∷ (finite (endsIn (givenTo c)) or InfiniteKey) ∷ []))
   four-held c h =
-      and-i (goodLength L w) _ (length-iff L w .1 (h .headed .long)) (and-i (goodHeader L w) _ (header-iff L w .1 (h .headed .header)) (and-i (fitting w c) _ (h .fits) (and-i (finite (endsOf c)) true (h .ends) tt)))
+      and-i (goodLength L w) _ (length-iff L w .1 (h .headed .long)) (and-i (goodHeader L w) _ (header-iff L w .1 (h .headed .header)) (and-i (fitting w (givenTo c)) _ (h .fits) (and-i (finite (endsIn (givenTo c))) true (h .ends) tt)))
 
   five : (v answer : List ℕ) → Taken w (list v answer) → (outcome w (list v answer) .number ≡ 5) ↔ (T (ordered (windowOf (domains w) v)) → ⊥)
   five v answer h =
       let c = list v answer in
-      row c tt ((goodLength L w or 1) ∷ (goodHeader L w or 6) ∷ (fitting w c or 3) ∷ (finite (endsOf c) or 4) ∷ []) [] (ordered (windowOf (domains w) v) or 5) refl
-      (four-held c h) tt (core-number w c 5 (omega arith) (omega arith))
+      row-of c tt ((goodLength L w or PoolLength) ∷ (goodHeader L w or Unsound) ∷ (fitting w (givenTo c) or BufferLength) ∷ (finite (endsIn (givenTo c)) or InfiniteKey) ∷ []) [] (ordered (windowOf (domains w) v) or WindowOrder) refl
+      (four-held c h) tt (lawful c .proper w .late 5 (omega arith) (omega arith))
 
   -- "not sound" by the test and by the sentences
   unsound : (n : ℕ) → (n ≡ 6) ↔ (T (sound L w) → ⊥) → (n ≡ 6) ↔ (Sound L w → ⊥)
@@ -303,7 +230,7 @@ module _ (w : List ℕ) where
   six-place work p l h =
       let c = place work p l in
       unsound (outcome w c .number)
-      (row c tt ((goodLength L w or 1) ∷ (goodHeader L w or 6) ∷ (fitting w c or 3) ∷ (finite (endsOf c) or 4) ∷ []) ((not (present (findWalk L w p .end)) or 7) ∷ []) (sound L w or 6) refl
+      (row-of c tt ((goodLength L w or PoolLength) ∷ (goodHeader L w or Unsound) ∷ (fitting w (givenTo c) or BufferLength) ∷ (finite (endsIn (givenTo c)) or InfiniteKey) ∷ []) ((not (present (findWalk L w p .end)) or Present) ∷ []) (sound L w or Unsound) refl
       (four-held c h) tt (go (stepped w (record { key = p; loc = l }))))
     where
       go : (s : Option State) → placing s w .number ≡ 6 → ⊥
@@ -316,8 +243,8 @@ module _ (w : List ℕ) where
     λ z s. by-records w p (good-passed w p s g) (λ e. removing e w p .number ≡ 6 → ⊥) (λ _ y. omega arith) (λ j _ y. omega arith) (λ x _ _ y. omega arith)
         (sym (ap (λ o. o .number) (remove-is w p s g)) ∙ z),
     λ n. sym (ap (λ o. o .number) (by-rows (remove p) tt))
-        ∙ fails ((goodLength L w or 1) ∷ (goodHeader L w or 6) ∷ (fitting w (remove p) or 3) ∷ (finite p or 4) ∷ []) [] (sound L w or 6) (lent w (remove p)) (core w (remove p))
-        (four-held (remove p) h) (λ t. n (sound-iff L big w .0 t)),
+        ∙ ap (λ o. o .number) (judge-fails ((goodLength L w or PoolLength) ∷ (goodHeader L w or Unsound) ∷ (fitting w (givenTo (remove p)) or BufferLength) ∷ (finite p or InfiniteKey) ∷ []) [] (sound L w or Unsound) (lent w (remove p)) (core w (remove p))
+        (four-held (remove p) h) (λ t. n (sound-iff L big w .0 t))),
   )
     where
       g : T (goodPoint (domains w) p)
@@ -329,7 +256,7 @@ module _ (w : List ℕ) where
       place-seven w work p l (n .sound) (n .point) (n .long)
       ∙ go (present (findWalk L w p .end)) (λ t. let i = present-iff w p (good-passed w p (n .sound) (n .point)) .0 t in omega (arith, n .absent))
     where
-      go : (x : Bool) → (T x → ⊥) → unless (not x) 7 (lent w (place work p l)) (core w (place work p l)) ≡ core w (place work p l)
+      go : (x : Bool) → (T x → ⊥) → unless (not x) Present (lent w (place work p l)) (core w (place work p l)) ≡ core w (place work p l)
       go true a = absurd (a tt)
       go false a = refl
 
@@ -346,7 +273,7 @@ module _ (w : List ℕ) where
   list-taken : (v answer : List ℕ) → Taken w (list v answer) → T (ordered (windowOf (domains w) v)) → T (begins w (list v answer))
   list-taken v answer h o =
       and-i (goodLength L w) _ (length-iff L w .1 (h .headed .long)) (and-i (goodHeader L w) _ (header-iff L w .1 (h .headed .header))
-      (and-i (fitting w (list v answer)) _ (h .fits) (and-i (finite v) _ (h .ends) (and-i (ordered (windowOf (domains w) v)) true o tt))))
+      (and-i (fitting w (givenTo (list v answer))) _ (h .fits) (and-i (finite v) _ (h .ends) (and-i (ordered (windowOf (domains w) v)) true o tt))))
 
   find-is : (p : List ℕ) → T (begins w (find p)) → outcome w (find p) ≡ finding (findWalk L w p) (lent w (find p))
   find-is p h = goes-on w (find p) h
@@ -396,48 +323,6 @@ module _ (w : List ℕ) where
       let t = list-told w n (windowOf (domains w) v) answer (sym (ap (λ o. o .number) (d .1)) ∙ z) in
       (ap (λ o. o .values) (d .1) ∙ t .0, ap (λ o. o .after .answer) (d .1) ∙ t .1)
 
--- a refusal returns its number and nothing else
-record Alone (o : Outcome) : Type 0 where
-  is : (o .number ≡ 0 → ⊥) → o .values ≡ []
-
-finding-alone : (g : Search) (b : Buffers) → Alone (finding g b)
-finding-alone g b = go (g .end)
-  where
-    go : (n : End) → Alone (finding (ends (g .read) n) b)
-    go rootless = record { is = λ h. refl }
-    go bad = record { is = λ h. refl }
-    go (absent j) = record { is = λ h. refl }
-    go (here s) = record { is = λ h. absurd (h refl) }
-
-listing-alone : (t : Tour) (w a : List ℕ) → Alone (listing t w a)
-listing-alone t w a = go (t .bad)
-  where
-    go : (m : Bool) → Alone (listing (record { read = t .read; bad = m; found = t .found }) w a)
-    go true = record { is = λ h. refl }
-    go false = record { is = λ h. absurd (h refl) }
-
-core-alone : (w : List ℕ) (c : Call) → Alone (core w c)
-core-alone w (format k) = record { is = λ h. absurd (h refl) }
-core-alone w check = record { is = λ h. absurd (h refl) }
-core-alone w (place work p l) = go (stepped w (record { key = p; loc = l }))
-  where
-    go : (s : Option State) → Alone (placing s w)
-    go none = record { is = λ h. refl }
-    go (some s) = record { is = λ h. absurd (h refl) }
-core-alone w (remove p) = go (findWalk L w p .end)
-  where
-    go : (e : End) → Alone (removing e w p)
-    go rootless = record { is = λ h. refl }
-    go bad = record { is = λ h. refl }
-    go (absent j) = record { is = λ h. refl }
-    go (here s) = record { is = λ h. absurd (h refl) }
-core-alone w (find p) = finding-alone (findWalk L w p) (lent w (find p))
-core-alone w (list v a) = listing-alone (listWalk L w (windowOf (domains w) v)) w a
-
-alone : (w : List ℕ) (c : Call) → (outcome w c .number ≡ 0 → ⊥) → outcome w c .values ≡ []
-unfolding outcome
-alone w c = judge-both Alone (tests w c) (lent w c) (core w c) (λ n. record { is = λ h. refl }) (core-alone w c) .is
-
 -- not the one exactly if not the other
 not-alike : {A B C : Type 0} → B ↔ C → A ↔ (B → ⊥) → A ↔ (C → ⊥)
 not-alike i j = (λ a c. j .0 a (i .1 c), λ n. j .1 (λ b. n (i .0 b)))
@@ -485,43 +370,16 @@ demand1 w =
       sixList = six-list w;
       lists = done-list w;
       listed = listed w;
-      alone = alone w;
+      alone = quiet w;
     }
 
 -- the size after a call
-kept-size : (w v : List ℕ) → v ≡ w → SameSize w v
-kept-size w v e = record { long = ap length e; domains = ap (λ u. getD u 0 0) e; pages = ap (λ u. getD u 1 0) e }
-
-printed-size : (w v : List ℕ) (s : State) → GoodLength L w → GoodHeader L w → WellFormed L (domains w) (pagesIn L w) s → v ≡ printed L (domains w) (pagesIn L w) s → SameSize w v
-printed-size w v s g h f e =
-    let k = domains w in
-    let N = pagesIn L w in
-    record {
-      long = ap length e ∙ (print-length L k N s big f ∙ sym (g .long));
-      domains = ap (λ u. getD u 0 0) e ∙ print-word L k N s big f 0 (omega arith);
-      pages = ap (λ u. getD u 1 0) e ∙ (print-word L k N s big f 1 (omega arith) ∙ sym (h .size));
-    }
-
-call-size : (w : List ℕ) (c : Call) → T (headed c) → SameSize w (outcome w c .after .pool)
+call-size : (w : List ℕ) (c : Call) → T (headed (givenTo c)) → SameSize w (outcome w c .after .pool)
 call-size w c y = go (outcome w c .number) refl
   where
-    done-size : (c : Call) → T (headed c) → outcome w c .number ≡ 0 → SameSize w (outcome w c .after .pool)
-    done-size (format k) y z = absurd y
-    done-size check y z = kept-size w (outcome w check .after .pool) (check-still w .still)
-    done-size (place work p l) y z =
-        let h = place-done w work p l z in
-        printed-size w (outcome w (place work p l) .after .pool) (h .state) (length-iff L w .0 (h .well .words)) (header-iff L w .0 (h .well .header)) (h .placed .formed) (h .pool)
-    done-size (remove p) y z =
-        let h = remove-steps w p z in
-        let s = h .0 .well in
-        let f = removed-formed L (domains w) (pagesIn L w) (stateOf L w) p (Sound-stands L w s big .formed) in
-        printed-size w (outcome w (remove p) .after .pool) (removed (stateOf L w) p) (length-iff L w .0 (s .words)) (header-iff L w .0 (s .header)) (f .formed) (h .2)
-    done-size (find p) y z = kept-size w (outcome w (find p) .after .pool) (find-still w p .still)
-    done-size (list v a) y z = kept-size w (outcome w (list v a) .after .pool) (list-still w v a .still)
-
     go : (n : ℕ) → outcome w c .number ≡ n → SameSize w (outcome w c .after .pool)
-    go zero e = done-size c y e
-    go (suc n) e = kept-size w (outcome w c .after .pool) (refusal-keeps w c .kept (λ z. omega arith))
+    go zero e = does-size w (row c .effect) (outcome w c .after .pool) (sizes c (of-true (row c .headed) (looks w c y))) (done-does w c e)
+    go (suc n) e = kept-size w (outcome w c .after .pool) (refusal-keeps w c (λ z. omega arith))
 
 -- the buffers after a call
 placing-work : (w work : List ℕ) (o : Option State) → (placing o w .number ≡ 0 → ⊥) → (placing o w .number ≡ 9 → ⊥) → placing o w .after .work ≡ work
@@ -533,11 +391,11 @@ placing-copy w none = refl
 placing-copy w (some s) = refl
 
 -- a test that fails leaves the buffers as they were
-refused-keeps : (ts : List Test) (b : Buffers) (o : Outcome) → every (λ t. t .holds) ts ≡ false → judge ts b o .after ≡ b
+refused-keeps : (ts : List Test) (b : Buffers) (o : Outcome) → allHold ts ≡ false → judge ts b o .after ≡ b
 refused-keeps [] b o e = absurd (let z : _≡_ {A = ℕ} 0 1 = ap (λ x. cond x 0 1) e in omega arith)
 refused-keeps (t ∷ ts) b o e = go (t .holds) e (refused-keeps ts b o)
   where
-    go : (x : Bool) → x && every (λ u. u .holds) ts ≡ false → (every (λ u. u .holds) ts ≡ false → judge ts b o .after ≡ b) → unless x (t .refusal) b (judge ts b o) .after ≡ b
+    go : (x : Bool) → x && allHold ts ≡ false → (allHold ts ≡ false → judge ts b o .after ≡ b) → unless x (t .refusal) b (judge ts b o) .after ≡ b
     go true e i = i e
     go false e i = refl
 
@@ -553,17 +411,17 @@ pub leaves : (w : List ℕ) → Leaves w
 unfolding outcome
 leaves w =
     record {
-      formats = formatted-is w;
+      formats = λ k z. moves w (emptied k) (outcome w (format k) .after .pool) (done-does w (format k) z) .0;
       sizes = call-size w;
-      pool = λ c n. refusal-keeps w c .kept n;
+      pool = refusal-keeps w;
       done = λ work p l z. ap (λ o. o .after .work) (done w (place work p l) z .1) ∙ placing-copy w (stepped w (record { key = p; loc = l }));
       short = λ work p l z.
           let c = place work p l in
           ap (λ o. o .after .work) (goes-on w c (all-held 9 (tests w c) (lent w c) (core w c) tt z)) ∙ placing-copy w (stepped w (record { key = p; loc = l }));
       work = λ work p l a b.
           let c = place work p l in
-          judge-both (λ o. (o .number ≡ 0 → ⊥) → (o .number ≡ 9 → ⊥) → o .after .work ≡ work) (tests w c) (lent w c) (core w c) (λ n a b. refl)
-          (placing-work w work (stepped w (record { key = p; loc = l }))) a b;
+          judge-after (λ o. (o .number ≡ 0 → ⊥) → (o .number ≡ 9 → ⊥) → o .after .work ≡ work) (tests w c) (lent w c) (core w c) (λ n a b. refl)
+          (λ _. placing-work w work (stepped w (record { key = p; loc = l }))) a b;
       early = λ v answer e. ap (λ b. b .answer) (refused-keeps (tests w (list v answer)) (lent w (list v answer)) (core w (list v answer)) e);
       bad = λ v answer h n.
           let e = goes-on w (list v answer) h in

@@ -19,7 +19,7 @@ use Rattle.kdb.specs.Pool.{domains, levelsAt, pagesIn, GoodLength, GoodH
 use Rattle.kdb.specs.Print.{printed, stateOf}
 use Rattle.kdb.specs.Walk.{listWalk}
 use Rattle.kdb.specs.Bad.{upToBad, findTrail, listTrail, findStops, listStops, listRecords}
-use Rattle.kdb.specs.Calls.{L, Call, format, check, place, remove, find, list, Outcome, finite, windowOf, ordered, stepped, outcome, begins, walkOf, Promise}
+use Rattle.kdb.specs.Calls.{L, Call, format, check, place, remove, find, list, Outcome, finite, windowOf, ordered, stepped, Effect, unchanged, emptied, added, dropped, Route, noWalk, toPoint, overWindow, row, outcome, begins, walkOf, Promise}
 
 -- the same records, each as often: equal counts for every test
 abbrev pub SameRecords : List Rec → List Rec → Type 0
@@ -60,32 +60,43 @@ pub record FindsExactly (rs : List Rec) (p : List ℕ) (o : Outcome) : Type 0 wh
   pub here : (l : ℕ) → 1 ≤ tally (λ r. same p (r .key) && eqb l (r .loc)) rs → (o .number ≡ 0) × (getD (o .values) 0 0 ≡ l)
   pub absent : tally (keyed p) rs ≡ 0 → o .number ≡ 8
 
--- what a call is lent beside the pool has the right length: a point K words, a window 2K, the work buffer as many as the pool
-abbrev pub fitting : List ℕ → Call → Bool
-fitting w (format k) = true
-fitting w check = true
-fitting w (place work p l) = eqb (length p) (domains w) && eqb (length work) (length w)
-fitting w (remove p) = eqb (length p) (domains w)
-fitting w (find p) = eqb (length p) (domains w)
-fitting w (list v answer) = eqb (length v) (2 * domains w)
+-- what a call is given beside the pool: the domains of a new index, nothing, a point, a point and a work buffer, a window
+pub data Given : Type 0 where
+  newDomains nothing : Given
+  aPoint aWindow : List ℕ → Given
+  aPointAndWork : List ℕ → List ℕ → Given
 
--- the keys or window ends of a call
-abbrev pub endsOf : Call → List ℕ
-endsOf (format k) = []
-endsOf check = []
-endsOf (place work p l) = p
-endsOf (remove p) = p
-endsOf (find p) = p
-endsOf (list v answer) = v
+abbrev pub givenTo : Call → Given
+givenTo (format k) = newDomains
+givenTo check = nothing
+givenTo (place work p l) = aPointAndWork p work
+givenTo (remove p) = aPoint p
+givenTo (find p) = aPoint p
+givenTo (list v answer) = aWindow v
 
 -- all calls but format look at the header
-abbrev pub headed : Call → Bool
-headed (format k) = false
-headed check = true
-headed (place work p l) = true
-headed (remove p) = true
-headed (find p) = true
-headed (list v answer) = true
+abbrev pub headed : Given → Bool
+headed newDomains = false
+headed nothing = true
+headed (aPoint p) = true
+headed (aWindow v) = true
+headed (aPointAndWork p work) = true
+
+-- the lengths are right: a point K words, a window 2K, the work buffer as many as the pool
+abbrev pub fitting : List ℕ → Given → Bool
+fitting w newDomains = true
+fitting w nothing = true
+fitting w (aPoint p) = eqb (length p) (domains w)
+fitting w (aWindow v) = eqb (length v) (2 * domains w)
+fitting w (aPointAndWork p work) = eqb (length p) (domains w) && eqb (length work) (length w)
+
+-- the keys or window ends
+abbrev pub endsIn : Given → List ℕ
+endsIn newDomains = []
+endsIn nothing = []
+endsIn (aPoint p) = p
+endsIn (aWindow v) = v
+endsIn (aPointAndWork p work) = p
 
 -- length and header of the pool are right: neither 1 nor the header's 6
 pub record Headed (w : List ℕ) : Type 0 where
@@ -95,8 +106,8 @@ pub record Headed (w : List ℕ) : Type 0 where
 -- and so are the lengths of what the call is lent, and its keys: nor 3, nor 4
 pub record Taken (w : List ℕ) (c : Call) : Type 0 where
   pub headed : Headed w
-  pub fits : T (fitting w c)
-  pub ends : T (finite (endsOf c))
+  pub fits : T (fitting w (givenTo c))
+  pub ends : T (finite (endsIn (givenTo c)))
 
 -- a sound pool takes a new point
 pub record New (w work p : List ℕ) : Type 0 where
@@ -118,9 +129,9 @@ pub record Demand1 (w : List ℕ) : Type 0 where
   pub one : (c : Call) → (outcome w c .number ≡ 1) ↔ (GoodLength L w → ⊥)
   pub two : (k : ℕ) → GoodLength L w → (outcome w (format k) .number ≡ 2) ↔ ((1 ≤ k) × (k ≤ 4) → ⊥)
   pub formats : (k : ℕ) → GoodLength L w → 1 ≤ k → k ≤ 4 → outcome w (format k) .number ≡ 0
-  pub header : (c : Call) → T (headed c) → GoodLength L w → (GoodHeader L w → ⊥) → outcome w c .number ≡ 6
-  pub three : (c : Call) → T (headed c) → Headed w → (outcome w c .number ≡ 3) ↔ (T (fitting w c) → ⊥)
-  pub four : (c : Call) → T (headed c) → Headed w → T (fitting w c) → (outcome w c .number ≡ 4) ↔ (T (finite (endsOf c)) → ⊥)
+  pub header : (c : Call) → T (headed (givenTo c)) → GoodLength L w → (GoodHeader L w → ⊥) → outcome w c .number ≡ 6
+  pub three : (c : Call) → T (headed (givenTo c)) → Headed w → (outcome w c .number ≡ 3) ↔ (T (fitting w (givenTo c)) → ⊥)
+  pub four : (c : Call) → T (headed (givenTo c)) → Headed w → T (fitting w (givenTo c)) → (outcome w c .number ≡ 4) ↔ (T (finite (endsIn (givenTo c))) → ⊥)
   pub five : (v answer : List ℕ) → Taken w (list v answer) → (outcome w (list v answer) .number ≡ 5) ↔ (T (ordered (windowOf (domains w) v)) → ⊥)
   -- 6 exactly if the pool is not sound
   pub six : GoodLength L w → (outcome w check .number ≡ 6) ↔ (Sound L w → ⊥)
@@ -176,7 +187,7 @@ pub record SameSize (w v : List ℕ) : Type 0 where
 -- refusals it is unchanged; where list's walk meets a bad page every slot is 0, after other refusals the slots are unchanged
 pub record Leaves (w : List ℕ) : Type 0 where
   pub formats : (k : ℕ) → outcome w (format k) .number ≡ 0 → Formatted w k (outcome w (format k) .after .pool)
-  pub sizes : (c : Call) → T (headed c) → SameSize w (outcome w c .after .pool)
+  pub sizes : (c : Call) → T (headed (givenTo c)) → SameSize w (outcome w c .after .pool)
   pub pool : (c : Call) → (outcome w c .number ≡ 0 → ⊥) → outcome w c .after .pool ≡ w
   pub done : (work p : List ℕ) (l : ℕ) → outcome w (place work p l) .number ≡ 0 → outcome w (place work p l) .after .work ≡ w
   pub short : (work p : List ℕ) (l : ℕ) → outcome w (place work p l) .number ≡ 9 → outcome w (place work p l) .after .work ≡ w
@@ -188,17 +199,14 @@ pub record Leaves (w : List ℕ) : Type 0 where
 
 -- what an accepted call makes of pool w: a format leaves an empty index, place and remove take the state to that of Robinson's step and the
 -- pool to its printed form, the others change nothing
-abbrev pub Moves : List ℕ → Call → List ℕ → Type 0
-Moves w (format k) v = Formatted w k v × (stateOf L v ≡ none)
-Moves w check v = v ≡ w
-Moves w (place work p l) v =
-    (s : State) × (stepped w (record { key = p; loc = l }) ≡ some s) × (v ≡ printed L (domains w) (pagesIn L w) s) × (stateOf L v ≡ s)
-Moves w (remove p) v = (v ≡ printed L (domains w) (pagesIn L w) (removed (stateOf L w) p)) × (stateOf L v ≡ removed (stateOf L w) p)
-Moves w (find p) v = v ≡ w
-Moves w (list u answer) v = v ≡ w
+abbrev pub Moves : List ℕ → Effect → List ℕ → Type 0
+Moves w unchanged v = v ≡ w
+Moves w (emptied k) v = Formatted w k v × (stateOf L v ≡ none)
+Moves w (added q) v = (s : State) × (stepped w q ≡ some s) × (v ≡ printed L (domains w) (pagesIn L w) s) × (stateOf L v ≡ s)
+Moves w (dropped p) v = (v ≡ printed L (domains w) (pagesIn L w) (removed (stateOf L w) p)) × (stateOf L v ≡ removed (stateOf L w) p)
 
 pub record ByTheSteps (w : List ℕ) (c : Call) (o : Outcome) : Type 0 where
-  pub done : o .number ≡ 0 → Moves w c (o .after .pool)
+  pub done : o .number ≡ 0 → Moves w (row c .effect) (o .after .pool)
   pub refused : (o .number ≡ 0 → ⊥) → o .after .pool ≡ w
 
 -- the pool before, the calls, their outcomes, the pool after: each call is by the steps
@@ -292,15 +300,12 @@ pub record Told (o o′ : Outcome) : Type 0 where
   pub values : o′ .values ≡ o .values
   pub answer : o′ .after .answer ≡ o .after .answer
 
--- the calls that have a walk
-abbrev pub walks : Call → Bool
-walks (format k) = false
-walks check = false
-walks (place work p l) = false
-walks (remove p) = false
-walks (find p) = true
-walks (list v answer) = true
+-- there is a walk
+abbrev pub walks : Route → Bool
+walks noWalk = false
+walks (toPoint p) = true
+walks (overWindow v) = true
 
 -- Locality: find and list depend on nothing but length, header and the pages on the list, refused calls included
 abbrev pub Local : List ℕ → List ℕ → Type 0
-Local w w′ = (c : Call) → T (walks c) → Agree L w w′ (walkOf w c) → (walkOf w′ c ≡ walkOf w c) × Told (outcome w c) (outcome w′ c)
+Local w w′ = (c : Call) → T (walks (row c .route w)) → Agree L w w′ (walkOf w c) → (walkOf w′ c ≡ walkOf w c) × Told (outcome w c) (outcome w′ c)

@@ -3,7 +3,7 @@ use mathlib.Core.List.{List, [], _∷_, _++_}
 use Prim.Native.Nat.{ℕ, zero, suc}
 use Rattle.kdb.specs.Tree.{Rec}
 use Rattle.kdb.specs.Steps.{without}
-use Rattle.kdb.specs.Calls.{Call, format, check, place, remove, find, list, Outcome, outcome, Promise}
+use Rattle.kdb.specs.Calls.{Call, Outcome, Effect, unchanged, emptied, added, dropped, row, outcome, Promise}
 
 -- the number and the values that a call returned
 pub record Answer : Type 0 where
@@ -23,18 +23,16 @@ abbrev pub answers : List ℕ → List Call → List Answer
 answers w [] = []
 answers w (c ∷ cs) = answerOf (outcome w c) ∷ answers (outcome w c .after .pool) cs
 
--- what one call that was done makes of the live records
-abbrev pub change : Call → List Rec → List Rec
-change (format k) rs = []
-change check rs = rs
-change (place work p l) rs = rs ++ (record { key = p; loc = l } ∷ [])
-change (remove p) rs = without p rs
-change (find p) rs = rs
-change (list v answer) rs = rs
+-- what a call that was done makes of the live records
+abbrev pub change : Effect → List Rec → List Rec
+change unchanged rs = rs
+change (emptied k) rs = []
+change (added q) rs = rs ++ (q ∷ [])
+change (dropped p) rs = without p rs
 
 -- a refused call changes nothing
 abbrev pub changed : ℕ → Call → List Rec → List Rec
-changed zero c rs = change c rs
+changed zero c rs = change (row c .effect) rs
 changed (suc n) c rs = rs
 
 abbrev pub live : List Rec → List Call → List Answer → List Rec

@@ -18,10 +18,10 @@ use Rattle.kdb.specs.Walk.{Spot, spots, Tour, still, astray, badAt, readAt, fol
 use Rattle.kdb.specs.Calls.{L}
 use Rattle.kdb.proofs.Lists.{and-t, sets-append}
 use Rattle.kdb.proofs.Words.{rec-turn, ent-turn}
-use Rattle.words.specs.Words.{wordAt, pointAt, pointLocation, keysOf, regionAt}
+use Rattle.words.specs.Words.{wordAt, pointAt, pointLocation, keysOf, regionAt, Fit}
 use Rattle.words.proofs.Laws.{pages}
 use Rattle.walk.specs.declared.Tally.{Tally}
-use Rattle.walk.specs.Pages.{Fit, regionWords, pointWords, RegionPage, PointPage}
+use Rattle.walk.specs.Pages.{regionWords, pointWords, RegionPage, PointPage}
 use Rattle.walk.specs.List.{St, stopped, going, seen, Fair, arrived, locations, noted, held, foundIn, met, each, after, walked}
 use Rattle.walk.proofs.Pages.{slot-next, is-page, regions-good, points-good, region-page, point-page}
 

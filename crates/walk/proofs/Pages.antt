@@ -1,23 +1,22 @@
 -- What a walk's tests of a page's words tell of the page's view.
 use mathlib.Core.Bool.{true, _&&_}
 use mathlib.Core.List.{List}
-use mathlib.Core.Path.{_≡_, sym, ap, _∙_}
+use mathlib.Core.Path.{_≡_, ap, _∙_}
 use Prim.Native.Nat.{ℕ, suc, _+_, _-_, _*_, _<_, _≤_}
 use native.Mathlib.Omega.{arith}
 use native.Mathlib.Nat.{suc-mul, zero-mul, mul-le-mul-right, mul-le-mul-left}
-use lib.Dec.{leb, ltb, eqb}
-use lib.ListN.{drop, getD, List·getD-eq-default}
-use borrow.Author.Tests.{leb-true, ltb-true}
-use Rattle.kdb.specs.Lists.{bit}
+use lib.Dec.{leb, ltb}
+use lib.ListN.{drop, List·getD-eq-default}
+use borrow.Author.Tests.{ltb-true}
 use Rattle.kdb.specs.Pages.{recsIn, entsIn, readRecs, readEnts}
-use Rattle.kdb.specs.Pool.{domains, rootAt, levelsAt, pagesIn, goodHeader, view, isPage}
+use Rattle.kdb.specs.Pool.{view, isPage}
 use Rattle.kdb.specs.Walk.{goodPoints, goodRegions}
 use Rattle.kdb.specs.Calls.{L}
 use Rattle.kdb.proofs.Lists.{and-t}
 use Rattle.kdb.proofs.Words.{good-points, good-regions, points-in, regions-in}
-use Rattle.words.specs.Words.{wordAt, pointAt, Paged, RecordIn}
+use Rattle.words.specs.Words.{wordAt, pointAt, Paged, Fit, RecordIn}
 use Rattle.words.proofs.Laws.{pages}
-use Rattle.walk.specs.Pages.{Fit, regionWords, pointWords, RegionPage, PointPage}
+use Rattle.walk.specs.Pages.{regionWords, pointWords, RegionPage, PointPage}
 
 -- a page past the last has no words
 pub past : (w : List ℕ) (n j : ℕ) → Paged w n → n ≤ j → wordAt w j 0 ≡ 0
@@ -73,10 +72,3 @@ count-few w k j g = let s : wordAt w j 1 * 1 ≤ wordAt w j 1 * (k + 1) = mul-le
 
 pub entries-few : (w : List ℕ) (k j : ℕ) → 1 ≤ k → RegionPage w k j → wordAt w j 1 ≤ 9
 entries-few w k j h g = let s : wordAt w j 1 * 3 ≤ wordAt w j 1 * (2 * k + 1) = mul-le-mul-left (wordAt w j 1) (omega arith) in omega (arith, g .room)
-
--- a pool with a good header is fit for a walk
-pub fit : (w : List ℕ) (n k : ℕ) → Paged w n → goodHeader L w ≡ true → k ≡ domains w → Fit w n k
-unfolding goodHeader
-fit w n k g t e =
-    let a = and-t _ _ (and-t _ _ (and-t _ _ (and-t _ _ (and-t _ _ (and-t (leb 1 (domains w) && leb (domains w) 4 && eqb (getD w 1 0) (pagesIn L w) && ltb (rootAt w) (pagesIn L w) && leb (levelsAt w) (pagesIn L w - 1) && eqb (bit (eqb (rootAt w) 0)) (bit (eqb (levelsAt w) 0))) _ t .0) .0) .0) .0) .0) in
-    record { paged = g; says = sym e; least = rw e (leb-true 1 (domains w) (a .0)); few = rw e (leb-true (domains w) 4 (a .1)) }

@@ -15,10 +15,10 @@ use Rattle.kdb.specs.Pool.{levelsAt, rootAt}
 use Rattle.kdb.specs.Walk.{ends, bad, spots, spotOf, into, seek, findWalk}
 use Rattle.kdb.specs.Calls.{L}
 use Rattle.kdb.proofs.Words.{rec-turn, ent-turn}
-use Rattle.words.specs.Words.{wordAt, pointAt, pointLocation, keysOf, regionAt}
+use Rattle.words.specs.Words.{wordAt, pointAt, pointLocation, keysOf, regionAt, Fit}
 use Rattle.walk.specs.declared.Sought.{Sought}
 use Rattle.walk.specs.declared.Sought.the-variants.{Here, Absent, Bad, NoRoot}
-use Rattle.walk.specs.Pages.{Fit, regionWords, pointWords}
+use Rattle.walk.specs.Pages.{regionWords, pointWords}
 use Rattle.walk.specs.Seek.{childOf, ended, told}
 use Rattle.walk.proofs.Pages.{slot-next, is-page, regions-good, points-good, region-page, point-page}
 

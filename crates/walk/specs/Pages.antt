@@ -1,20 +1,11 @@
 -- What a walk knows of the pool and of a page, over its words.
 use mathlib.Core.Bool.{Bool, _&&_}
 use mathlib.Core.List.{List}
-use mathlib.Core.Path.{_≡_}
 use Prim.Native.Nat.{ℕ, _+_, _*_, _^_, _≤_, _<_}
 use lib.Dec.{leb, eqb}
 use lib.ListN.{length}
-use Rattle.kdb.specs.Pool.{domains}
 use Rattle.kdb.specs.Calls.{L}
-use Rattle.words.specs.Words.{wordAt, Paged, capacityOf}
-
--- n pages and k domains, 1 to 4
-pub record Fit (w : List ℕ) (n k : ℕ) : Type 0 where
-  pub paged : Paged w n
-  pub says : domains w ≡ k
-  pub least : 1 ≤ k
-  pub few : k ≤ 4
+use Rattle.words.specs.Words.{wordAt, capacityOf}
 
 -- kind and count of a region page, and of a point page, that a walk takes
 abbrev pub regionWords : List ℕ → ℕ → ℕ → Bool

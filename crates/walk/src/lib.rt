@@ -19,8 +19,8 @@ ghost use Rattle.kdb.specs.Box.{inWindow};
 ghost use Rattle.kdb.specs.Pages.{readRecs, readEnts};
 ghost use Rattle.kdb.specs.Walk.{spots, spotOf, seek, findWalk, tour, listWalk};
 ghost use Rattle.kdb.specs.Calls.{L, windowOf};
-ghost use Rattle.words.specs.Words.{Paged, wordAt, keysOf, pointLocation, RecordIn};
-ghost use Rattle.walk.specs.Pages.{Fit, regionWords, pointWords, RegionPage, PointPage};
+ghost use Rattle.words.specs.Words.{Paged, wordAt, keysOf, pointLocation, RecordIn, Fit};
+ghost use Rattle.walk.specs.Pages.{regionWords, pointWords, RegionPage, PointPage};
 ghost use Rattle.walk.specs.Seek.{childOf, ended, told};
 ghost use Rattle.walk.specs.List.{Fair, arrived, foundIn, met, each, seen, after, walked};
 

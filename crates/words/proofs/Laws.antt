@@ -11,13 +11,14 @@ use lib.Seq.{sets, take-length}
 use borrow.Author.Tests.{eqb-true, leb-true}
 use Rattle.kdb.specs.Lists.{bit, every}
 use Rattle.kdb.specs.Pages.{page}
-use Rattle.kdb.specs.Pool.{pagesIn, goodLength}
+use Rattle.kdb.specs.Pool.{domains, pagesIn, goodLength, goodHeader}
 use Rattle.kdb.specs.Calls.{L, finite}
 use Rattle.kdb.specs.Box.{∞}
-use Rattle.kdb.proofs.Lists.{and-t, is-true, sets-whole}
+use Rattle.kdb.proofs.Lists.{and-t, is-true, of-true, sets-whole}
+use Rattle.kdb.proofs.Pool.{header-iff}
 use Rattle.kdb.proofs.Words.{keys-by, page-rest}
 use Rattle.words.specs.Loops.{allBy}
-use Rattle.words.specs.Words.{pageCount, Paged, allZero, capacityOf}
+use Rattle.words.specs.Words.{pageCount, Paged, Fit, allZero, capacityOf}
 use Rattle.words.proofs.Loops.{every-by}
 use Rattle.words.proofs.Table.{at₂}
 
@@ -31,6 +32,11 @@ paged w t =
 
 pub pages : (w : List ℕ) (n : ℕ) → Paged w n → pagesIn L w ≡ n
 pages w n g = let z : length w ≡ 32 * n = g .words in omega arith
+
+-- a pool with a good header is fit for every call
+pub fit : (w : List ℕ) (n k : ℕ) → Paged w n → goodHeader L w ≡ true → k ≡ domains w → Fit w n k
+fit w n k g t e =
+    let h = header-iff L w .0 (of-true (goodHeader L w) t) in record { paged = g; says = sym e; least = rw e (h .least); few = rw e (h .most) }
 
 -- what a count of pages tells
 pub count-none : (w : List ℕ) (n : ℕ) → n ≡ pageCount w → n ≡ 0 → goodLength L w ≡ false

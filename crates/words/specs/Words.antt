@@ -8,7 +8,7 @@ use lib.ListN.{length, take, drop, getD}
 use Rattle.kdb.specs.Lists.{only, upFrom}
 use Rattle.kdb.specs.Box.{Box, Key, sides}
 use Rattle.kdb.specs.Pages.{regionsPer, pointsPer}
-use Rattle.kdb.specs.Pool.{pagesIn, goodLength}
+use Rattle.kdb.specs.Pool.{domains, pagesIn, goodLength}
 use Rattle.kdb.specs.Calls.{L}
 use Rattle.words.specs.Loops.{allBy}
 
@@ -25,6 +25,13 @@ pub record Paged (w : List ℕ) (n : ℕ) : Type 0 where
   pub words : length w ≡ L * n
   pub least : 2 ≤ n
   pub most : n ≤ 512
+
+-- n pages and k domains, 1 to 4
+pub record Fit (w : List ℕ) (n k : ℕ) : Type 0 where
+  pub paged : Paged w n
+  pub says : domains w ≡ k
+  pub least : 1 ≤ k
+  pub few : k ≤ 4
 
 -- the n words from a on are 0
 abbrev pub zeroAt : List ℕ → ℕ → ℕ → Bool

@@ -1,13 +1,12 @@
 -- `index::format` meets its contract: each way out is the definition's outcome.
 use mathlib.Core.List.{[]}
-use Rattle.kdb.specs.Calls.{gives}
-use lib.ListN.{set}
-use Rattle.index.specs.Answers.{alone}
-use Rattle.index.proofs.Laws.{format-1, format-2, format-0, formats, outside, inside}
-use Rattle.words.proofs.Laws.{count-none, count-some}
 use mathlib.Core.Path.{ap, _∙_}
-use borrow.Author.Needs.{needs}
+use lib.ListN.{set}
 use native.Mathlib.Omega.{arith}
+use Rattle.kdb.specs.Calls.{alone, gives}
+use Rattle.words.proofs.Laws.{count-none, count-some}
+use Rattle.index.proofs.Laws.{format-long, format-domains, format-done, formats, outside, inside}
+use borrow.Author.Needs.{needs}
 use Rattle.index.proofs.format.Statement.{statement}
 use Rattle.index.proofs.format.Tie as tie
 
@@ -18,13 +17,13 @@ same-length : tie.Need-same-length
 same-length c = search needs
 
 returns : tie.Need-returns
-returns c = record { kept = format-1 _ _ (count-none _ _ (c .before .page-count .ensures) (c .if1 .taken)) }
+returns c = format-long _ _ (count-none _ _ (c .before .page-count .ensures) (c .if1 .taken))
 
 same-length-2 : tie.Need-same-length-2
 same-length-2 c = search needs
 
 returns-2 : tie.Need-returns-2
-returns-2 c = record { kept = format-2 _ _ (count-some _ _ (c .before .before .page-count .ensures) (c .before .if1 .left) .0) (outside (c .before .before .before .before .before .args .k) (c .if2 .taken)) }
+returns-2 c = format-domains _ _ (count-some _ _ (c .before .before .page-count .ensures) (c .before .if1 .left) .0) (outside (c .before .before .before .before .before .args .k) (c .if2 .taken))
 
 clear-requires : tie.Need-clear-requires
 clear-requires c κs = search needs
@@ -42,7 +41,7 @@ returns-3 : tie.Need-returns-3
 returns-3 c = let a = c .before .before .before .before .before .before .before .before .before .before .before .before .before .before .before .before .before .args in
     let g = count-some (a .pool .now) _ (c .before .before .before .before .before .before .before .before .before .before .before .before .before .before .page-count .ensures) (c .before .before .before .before .before .before .before .before .before .before .before .before .before .if1 .left) in
     let e = c .before .before .put2 .ensures ∙ ap (λ q. set q 1 (c .before .before .before .before .before .before .before .before .before .before .before .before .before .before .page-count .result)) (c .before .before .before .before .before .before .put .ensures ∙ ap (λ q. set q 0 (a .k)) (c .before .before .before .before .before .before .before .before .before .before .clear .ensures)) in
-    record { kept = ap (λ q. gives [] (alone q)) (e ∙ formats (a .pool .now) _ (a .k) (g .1)) ∙ format-0 (a .pool .now) (a .k) (g .0) (inside (a .k) (c .before .before .before .before .before .before .before .before .before .before .before .before .if2 .left) .0) }
+    record { kept = ap (λ q. gives [] (alone q)) (e ∙ formats (a .pool .now) _ (a .k) (g .1)) ∙ format-done (a .pool .now) (a .k) (g .0) (inside (a .k) (c .before .before .before .before .before .before .before .before .before .before .before .before .if2 .left) .0) }
 
 pub format-spec : {M : Type 1} → statement M
 format-spec =

@@ -1,10 +1,9 @@
 -- `index::is_there` meets its contract: whether the search for the point ends at its record.
-use mathlib.Core.Path.{_≡_, refl, sym, ap, _∙_}
+use mathlib.Core.Path.{sym, ap, _∙_}
 use Rattle.kdb.specs.Calls.{L}
 use Rattle.kdb.specs.Walk.{findWalk}
-use Rattle.index.proofs.Changes.{isHere, present-of}
+use Rattle.index.proofs.Laws.{isHere, present-of}
 use borrow.Author.Needs.{needs}
-use native.Mathlib.Omega.{arith}
 use Rattle.index.proofs.is_there.Statement.{statement}
 use Rattle.index.proofs.is_there.Tie as tie
 use Rattle.index.proofs.is_there.Reads as reads

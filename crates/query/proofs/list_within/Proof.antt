@@ -1,7 +1,7 @@
--- `index::list_within` meets its contract: the walk's state is list's outcome.
-use Rattle.index.proofs.Laws.{list-bad, list-good}
-use Rattle.index.specs.Answers.{with}
-use Rattle.kdb.specs.Calls.{L, windowOf, refuses, gives}
+-- `query::list_within` meets its contract: the walk's state is list's outcome.
+use Rattle.query.proofs.Laws.{list-bad, list-good}
+use Rattle.kdb.specs.declared.Refusal.the-variants.{Unsound}
+use Rattle.kdb.specs.Calls.{L, answering, windowOf, refuses, gives}
 use Rattle.kdb.specs.Walk.{listWalk}
 use lib.Seq.{sets}
 use lib.ListN.{length, replicate}
@@ -9,8 +9,8 @@ use mathlib.Core.List.{[], _∷_}
 use mathlib.Core.Path.{ap, _∙_}
 use Prim.Native.Nat.{_-_}
 use borrow.Author.Needs.{needs}
-use Rattle.index.proofs.list_within.Statement.{statement}
-use Rattle.index.proofs.list_within.Tie as tie
+use Rattle.query.proofs.list_within.Statement.{statement}
+use Rattle.query.proofs.list_within.Tie as tie
 
 list-walk-requires : tie.Need-list-walk-requires
 list-walk-requires c κs = search needs
@@ -27,7 +27,7 @@ same-length c = c .before .before .before .clear .kept .0 ∙ c .before .before 
 returns : tie.Need-returns
 returns c = let a = c .before .before .before .before .before .before .before .before .before .before .before .before .before .args in
     let t = c .before .before .before .before .before .before .before .before .list-walk .result in
-    ap (λ q. refuses 6 (with (a .pool .now) q)) (c .before .before .before .clear .ensures ∙ ap (λ i. sets (c .before .before .before .before .before .before .before .before .list-walk .last .1 .1 .1 .1 .0) i (replicate (length (a .answer .now) - i) 0)) (c .before .before .before .before .zeroed-from .ensures))
+    ap (λ q. refuses Unsound (answering q (a .pool .now))) (c .before .before .before .clear .ensures ∙ ap (λ i. sets (c .before .before .before .before .before .before .before .before .list-walk .last .1 .1 .1 .1 .0) i (replicate (length (a .answer .now) - i) 0)) (c .before .before .before .before .zeroed-from .ensures))
     ∙ list-bad (a .pool .now) (a .answer .now) t (c .before .before .before .before .before .before .before .before .list-walk .last .1 .1 .1 .1 .0) (listWalk L (a .pool .now) (windowOf (a .k) (a .window .now))) (c .before .before .before .before .before .before .before .before .list-walk .ensures) (c .if1 .taken) (c .before .before .before .before .before .before .before .before .list-walk .kept .1 .1 .1 .1 .0)
 
 same-length-2 : tie.Need-same-length-2
@@ -36,7 +36,7 @@ same-length-2 c = c .before .before .before .clear .kept .0 ∙ c .before .befor
 returns-2 : tie.Need-returns-2
 returns-2 c = let a = c .before .before .before .before .before .before .before .before .before .before .before .before .before .args in
     let t = c .before .before .before .before .before .before .before .before .list-walk .result in
-    ap (λ q. gives (t .total ∷ t .reads ∷ []) (with (a .pool .now) q)) (c .before .before .before .clear .ensures ∙ ap (λ i. sets (c .before .before .before .before .before .before .before .before .list-walk .last .1 .1 .1 .1 .0) i (replicate (length (a .answer .now) - i) 0)) (c .before .before .before .before .zeroed-from .ensures))
+    ap (λ q. gives (t .total ∷ t .reads ∷ []) (answering q (a .pool .now))) (c .before .before .before .clear .ensures ∙ ap (λ i. sets (c .before .before .before .before .before .before .before .before .list-walk .last .1 .1 .1 .1 .0) i (replicate (length (a .answer .now) - i) 0)) (c .before .before .before .before .zeroed-from .ensures))
     ∙ list-good (a .pool .now) (a .answer .now) t (c .before .before .before .before .before .before .before .before .list-walk .last .1 .1 .1 .1 .0) (listWalk L (a .pool .now) (windowOf (a .k) (a .window .now))) (c .before .before .before .before .before .before .before .before .list-walk .ensures) (c .if1 .left)
 
 pub list-within-spec : {M : Type 1} → statement M

@@ -7,7 +7,7 @@ use lib.Dec.{T}
 use lib.ListN.{getD}
 use Rattle.kdb.specs.Lists.{tally}
 use Rattle.kdb.specs.Pool.{domains, levelsAt, pagesIn, numbers, Sound, ownRegion}
-use Rattle.kdb.specs.Calls.{L, find, list, Outcome, windowOf, outcome, Promise}
+use Rattle.kdb.specs.Calls.{L, find, list, Outcome, windowOf, Promise}
 use Rattle.kdb.specs.Demands.{goodWindow, goodPoint, met}
 use Rattle.kdb.proofs.Demands.{demand3, bounded}
 
