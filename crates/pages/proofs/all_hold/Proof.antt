@@ -1,4 +1,4 @@
--- `audit::all_hold` meets its contract: domain by domain over all points.
+-- `pages::all_hold` meets its contract: domain by domain over all points.
 use Prim.Native.Nat.{_-_}
 use mathlib.Core.Path.{_≡_, sym, _∙_}
 use mathlib.Core.Bool.{true}
@@ -10,17 +10,17 @@ use Rattle.words.specs.Loops.{allBy}
 use Rattle.words.proofs.Loops.{all-end}
 use Rattle.cover.specs.Boxes.{sideAt, boxAt}
 use Rattle.cover.proofs.Loops.{all-on, all-stop}
-use Rattle.audit.specs.Tests.{keysIn, columnIn}
-use Rattle.audit.proofs.Slots.{columns-are}
-use Rattle.audit.proofs.side_holds.Reads as side-holds-reads
+use Rattle.pages.specs.Tests.{keysIn, columnIn}
+use Rattle.pages.proofs.Slots.{columns-are}
+use Rattle.pages.proofs.side_holds.Reads as side-holds-reads
 use Rattle.words.proofs.upper_end.Reads as upper-end-reads
 use Rattle.words.proofs.lower_end.Reads as lower-end-reads
 use borrow.Author.Needs.{needs}
 use native.Mathlib.Omega.{arith}
-use Rattle.audit.proofs.all_hold.Statement.{statement}
-use Rattle.audit.proofs.all_hold.Tie as tie
-use Rattle.audit.proofs.all_hold.Reads as reads
-use Rattle.audit.proofs.all_hold.Lts as lts
+use Rattle.pages.proofs.all_hold.Statement.{statement}
+use Rattle.pages.proofs.all_hold.Tie as tie
+use Rattle.pages.proofs.all_hold.Reads as reads
+use Rattle.pages.proofs.all_hold.Lts as lts
 
 abbrev Inv-loop : tie.InvT-loop
 Inv-loop p k at count q b d₀ d = allBy (k - d) (λ n i. columnIn p k count i (sideAt q k b i) at) 1 d true ≡ every (within (boxAt q k b)) (keysIn count p k at)

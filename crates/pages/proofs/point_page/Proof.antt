@@ -1,17 +1,17 @@
--- `audit::point_page` meets its contract: head, tail, points in the region and different, each read within the pool.
+-- `pages::point_page` meets its contract: head, tail, points in the region and different, each read within the pool.
 use mathlib.Core.Path.{sym, _∙_}
 use borrow.Author.Tests.{not-true, not-false}
 use Rattle.cover.proofs.Tests.{box-is}
-use Rattle.audit.proofs.OnePage.{points-head, points-tail, points-out, points-last, point-room}
+use Rattle.pages.proofs.OnePage.{points-head, points-tail, points-out, points-last, point-room}
 use borrow.Author.Needs.{needs}
 use native.Mathlib.Omega.{arith}
-use Rattle.audit.proofs.point_page.Statement.{statement}
-use Rattle.audit.proofs.point_page.Tie as tie
-use Rattle.audit.proofs.point_page.Reads as reads
-use Rattle.audit.proofs.point_page.Lts as lts
-use Rattle.audit.proofs.all_hold.Reads as all-hold-reads
-use Rattle.audit.proofs.distinct.Reads as distinct-reads
-use Rattle.audit.proofs.head_good.Reads as head-good-reads
+use Rattle.pages.proofs.point_page.Statement.{statement}
+use Rattle.pages.proofs.point_page.Tie as tie
+use Rattle.pages.proofs.point_page.Reads as reads
+use Rattle.pages.proofs.point_page.Lts as lts
+use Rattle.pages.proofs.all_hold.Reads as all-hold-reads
+use Rattle.pages.proofs.distinct.Reads as distinct-reads
+use Rattle.pages.proofs.head_good.Reads as head-good-reads
 use Rattle.words.proofs.points_per.Reads as points-per-reads
 use Rattle.words.proofs.read.Reads as read-reads
 use Rattle.words.proofs.zeros.Reads as zeros-reads

@@ -1,4 +1,4 @@
--- `audit::differs` meets its contract: point by point, and out at the first with the same keys.
+-- `pages::differs` meets its contract: point by point, and out at the first with the same keys.
 use Prim.Native.Nat.{_-_, _+_}
 use mathlib.Core.Path.{_≡_, sym, ap, _∙_}
 use mathlib.Core.Bool.{true, not}
@@ -8,15 +8,15 @@ use Rattle.words.specs.Loops.{allBy}
 use Rattle.words.proofs.Loops.{all-end}
 use Rattle.cover.specs.Boxes.{Row}
 use Rattle.cover.proofs.Loops.{all-on, all-stop, row-next}
-use Rattle.audit.specs.Tests.{keyIn, keysIn, alone}
-use Rattle.audit.proofs.Slots.{alone-loop, point-first}
-use Rattle.audit.proofs.twins.Reads as twins-reads
+use Rattle.pages.specs.Tests.{keyIn, keysIn, alone}
+use Rattle.pages.proofs.Slots.{alone-loop, point-first}
+use Rattle.pages.proofs.twins.Reads as twins-reads
 use borrow.Author.Needs.{needs}
 use native.Mathlib.Omega.{arith}
-use Rattle.audit.proofs.differs.Statement.{statement}
-use Rattle.audit.proofs.differs.Tie as tie
-use Rattle.audit.proofs.differs.Reads as reads
-use Rattle.audit.proofs.differs.Lts as lts
+use Rattle.pages.proofs.differs.Statement.{statement}
+use Rattle.pages.proofs.differs.Tie as tie
+use Rattle.pages.proofs.differs.Reads as reads
+use Rattle.pages.proofs.differs.Lts as lts
 
 abbrev Inv-loop : tie.InvT-loop
 Inv-loop p k a at left b₀ e₀ b e = Row p (k + 1) b (left - e) × (allBy (left - e) (λ n y. not (same (keyIn p k a) (keyIn p k y))) (k + 1) b true ≡ alone (keyIn p k a) (keysIn left p k at))

@@ -1,15 +1,15 @@
--- `audit::distinct` meets its contract: from the last point to the first, with a mark for each first key met.
+-- `pages::distinct` meets its contract: from the last point to the first, with a mark for each first key met.
 use mathlib.Core.Path.{refl, sym, _∙_}
 use borrow.Author.Tests.{not-true, not-false}
-use Rattle.audit.proofs.Slots.{point-all}
-use Rattle.audit.proofs.Bits.{Done, done-none, done-end, back-room, back-row, done-stop, done-next}
+use Rattle.pages.proofs.Slots.{point-all}
+use Rattle.pages.proofs.Bits.{Done, done-none, done-end, back-room, back-row, done-stop, done-next}
 use borrow.Author.Needs.{needs}
 use native.Mathlib.Omega.{arith}
-use Rattle.audit.proofs.distinct.Statement.{statement}
-use Rattle.audit.proofs.distinct.Tie as tie
-use Rattle.audit.proofs.distinct.Reads as reads
-use Rattle.audit.proofs.distinct.Lts as lts
-use Rattle.audit.proofs.alone_if.Reads as alone-if-reads
+use Rattle.pages.proofs.distinct.Statement.{statement}
+use Rattle.pages.proofs.distinct.Tie as tie
+use Rattle.pages.proofs.distinct.Reads as reads
+use Rattle.pages.proofs.distinct.Lts as lts
+use Rattle.pages.proofs.alone_if.Reads as alone-if-reads
 use Rattle.words.proofs.read.Reads as read-reads
 
 abbrev Inv-loop : tie.InvT-loop

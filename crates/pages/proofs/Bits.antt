@@ -14,8 +14,15 @@ use Rattle.kdb.specs.Box.{Key}
 use Rattle.kdb.proofs.Lists.{and-l, and-r, and-i, bool, is-true, is-false, of-true, same-eq}
 use Rattle.kdb.proofs.Words.{keysBy}
 use Rattle.cover.specs.Boxes.{Row}
-use Rattle.audit.specs.Tests.{keyIn, keysIn, alone, distinctOf}
-use Rattle.audit.proofs.Walks.{case, true-false}
+use Rattle.pages.specs.Tests.{keyIn, keysIn, alone, distinctOf}
+
+-- by cases on a test, with its equation
+pub case {ℓ} : {C : Type ℓ} (b : Bool) → (b ≡ true → C) → (b ≡ false → C) → C
+case true f g = f refl
+case false f g = g refl
+
+pub true-false {ℓ} : {C : Type ℓ} → true ≡ false → C
+true-false e = absurd (let z : _≡_ {A = ℕ} 0 1 = cc in omega arith)
 
 -- each of the keys has the mark of its bits
 abbrev pub bitsOf : Key → ℕ

@@ -1,4 +1,4 @@
--- `audit::twins` meets its contract: key by key, and out at the first that differs.
+-- `pages::twins` meets its contract: key by key, and out at the first that differs.
 use Prim.Native.Nat.{_-_, _+_}
 use mathlib.Core.Path.{_≡_, sym, _∙_}
 use mathlib.Core.Bool.{true}
@@ -10,14 +10,14 @@ use Rattle.kdb.specs.Lists.{same}
 use Rattle.words.specs.Loops.{allBy}
 use Rattle.words.proofs.Loops.{all-end}
 use Rattle.cover.proofs.Loops.{all-on, all-stop}
-use Rattle.audit.specs.Tests.{keyIn}
-use Rattle.audit.proofs.Slots.{same-loop}
+use Rattle.pages.specs.Tests.{keyIn}
+use Rattle.pages.proofs.Slots.{same-loop}
 use borrow.Author.Needs.{needs}
 use native.Mathlib.Omega.{arith}
-use Rattle.audit.proofs.twins.Statement.{statement}
-use Rattle.audit.proofs.twins.Tie as tie
-use Rattle.audit.proofs.twins.Reads as reads
-use Rattle.audit.proofs.twins.Lts as lts
+use Rattle.pages.proofs.twins.Statement.{statement}
+use Rattle.pages.proofs.twins.Tie as tie
+use Rattle.pages.proofs.twins.Reads as reads
+use Rattle.pages.proofs.twins.Lts as lts
 use Rattle.words.proofs.read.Reads as read-reads
 
 abbrev Inv-loop : tie.InvT-loop

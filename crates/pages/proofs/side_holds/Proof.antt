@@ -1,4 +1,4 @@
--- `audit::side_holds` meets its contract: key by key, and out at the first that is not in the side.
+-- `pages::side_holds` meets its contract: key by key, and out at the first that is not in the side.
 use Prim.Native.Nat.{_-_, _+_}
 use mathlib.Core.Path.{_≡_}
 use mathlib.Core.Bool.{true}
@@ -9,14 +9,14 @@ use Rattle.words.specs.Loops.{allBy}
 use Rattle.words.proofs.Loops.{all-end}
 use Rattle.cover.specs.Boxes.{Row}
 use Rattle.cover.proofs.Loops.{all-on, all-stop, row-first, row-next}
-use Rattle.audit.specs.Tests.{keyInside, columnIn}
-use Rattle.audit.proofs.Slots.{key-under, key-past, key-in}
+use Rattle.pages.specs.Tests.{keyInside, columnIn}
+use Rattle.pages.proofs.Slots.{key-under, key-past, key-in}
 use borrow.Author.Needs.{needs}
 use native.Mathlib.Omega.{arith}
-use Rattle.audit.proofs.side_holds.Statement.{statement}
-use Rattle.audit.proofs.side_holds.Tie as tie
-use Rattle.audit.proofs.side_holds.Reads as reads
-use Rattle.audit.proofs.side_holds.Lts as lts
+use Rattle.pages.proofs.side_holds.Statement.{statement}
+use Rattle.pages.proofs.side_holds.Tie as tie
+use Rattle.pages.proofs.side_holds.Reads as reads
+use Rattle.pages.proofs.side_holds.Lts as lts
 use Rattle.words.proofs.read.Reads as read-reads
 
 abbrev Inv-loop : tie.InvT-loop

@@ -1,4 +1,4 @@
--- The tests that code makes of one page are the audit's tests of it: `point-page-is` and `region-page-is`.
+-- The tests that code makes of one page are those of specs/Kinds: `point-page-is` and `region-page-is`.
 use mathlib.Core.Bool.{Bool, true, false, _&&_, not}
 use mathlib.Core.List.{List, [], _∷_, map}
 use mathlib.Core.Logic.{_↔_}
@@ -27,10 +27,10 @@ use Rattle.words.specs.Words.{wordAt, Paged, allZero}
 use Rattle.words.proofs.Laws.{pages}
 use Rattle.words.proofs.Loops.{every-by}
 use Rattle.cover.specs.Boxes.{regionsIn, Row}
-use Rattle.audit.specs.Tests.{keysIn, alone, distinctOf, headOf, Held, Numbered}
-use Rattle.audit.specs.Walk.{soundPoints, soundRegions}
-use Rattle.audit.proofs.Laying.{recs-words, ents-words, layout-iff}
-use Rattle.audit.proofs.Here.{points-say, say-points, regions-say, say-regions}
+use Rattle.pages.specs.Tests.{keysIn, alone, distinctOf, headOf, Held, Numbered}
+use Rattle.pages.specs.Kinds.{soundPoints, soundRegions}
+use Rattle.pages.proofs.Laying.{recs-words, ents-words, layout-iff}
+use Rattle.pages.proofs.Here.{points-say, say-points, regions-say, say-regions}
 
 -- keys in words are the keys of the records
 keys-are : (m : ℕ) (w : List ℕ) (k a : ℕ) → a + m * (k + 1) ≤ length w → keysIn m w k a ≡ map (λ r. r .key) (readRecs k m (drop a w))

@@ -1,21 +1,20 @@
--- The loops over points and page numbers are tests of lists.
+-- The loops over points are tests of lists.
 use mathlib.Core.Bool.{Bool, true, false, _&&_, not}
 use mathlib.Core.List.{List}
 use mathlib.Core.Path.{_≡_, refl, sym, ap, ap₂, _∙_}
 use Prim.Native.Nat.{ℕ, zero, suc, _+_, _-_, _<_, _≤_}
 use native.Mathlib.Omega.{arith}
-use native.Mathlib.Numerals.{add-one}
 use lib.Dec.{leb, eqb}
 use lib.ListN.{getD}
 use borrow.Author.Tests.{lt-ltb, le-ltb, le-leb, lt-leb}
-use Rattle.kdb.specs.Lists.{every, same, upFrom}
+use Rattle.kdb.specs.Lists.{every, same}
 use Rattle.kdb.specs.Box.{Side, Key, within}
 use Rattle.kdb.proofs.Lists.{and-true, and-assoc, and-false}
 use Rattle.kdb.proofs.Words.{keysBy}
 use Rattle.words.specs.Loops.{allBy}
 use Rattle.cover.specs.Boxes.{sidesBy, sideAt, boxAt, Row}
 use Rattle.cover.proofs.Loops.{row-first, row-next}
-use Rattle.audit.specs.Tests.{keyIn, keysIn, keyInside, columnIn, alone, PointIn}
+use Rattle.pages.specs.Tests.{keyIn, keysIn, keyInside, columnIn, alone, PointIn}
 
 -- flag loops: the flag by itself, two tests in one loop, tests that agree
 all-flag : (n : ℕ) (f : ℕ → ℕ → Bool) (d a : ℕ) (ok : Bool) → allBy n f d a ok ≡ ok && allBy n f d a true
@@ -85,11 +84,6 @@ pub alone-loop : (m : ℕ) (x : Key) (w : List ℕ) (k a : ℕ) (ok : Bool) → 
 unfolding allBy
 alone-loop zero x w k a ok = sym (and-true ok)
 alone-loop (suc m) x w k a ok = alone-loop m x w k (a + (k + 1)) (ok && not (same x (keyIn w k a))) ∙ and-assoc ok _ _
-
-pub number-loop : (m : ℕ) (f : ℕ → Bool) (a : ℕ) (ok : Bool) → allBy m (λ n j. f j) 1 a ok ≡ ok && every f (upFrom m a)
-unfolding allBy
-number-loop zero f a ok = sym (and-true ok)
-number-loop (suc m) f a ok = number-loop m f (a + 1) (ok && f a) ∙ (and-assoc ok _ _ ∙ ap (λ (x : ℕ). ok && (f a && every f (upFrom m x))) (add-one a))
 
 pub point-first : (w : List ℕ) (k a c e : ℕ) → Row w (k + 1) a (c - e) → e < c → PointIn w k a
 point-first w k a c e h l = let r = row-first w (k + 1) a c e h l in record { near = omega (arith, h .near); few = omega (arith, h .wide); ends = omega arith }

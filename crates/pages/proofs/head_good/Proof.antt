@@ -1,9 +1,9 @@
--- `audit::head_good` meets its contract: the four words, each within the pool.
+-- `pages::head_good` meets its contract: the four words, each within the pool.
 use borrow.Author.Needs.{needs}
-use Rattle.audit.proofs.head_good.Statement.{statement}
-use Rattle.audit.proofs.head_good.Tie as tie
-use Rattle.audit.proofs.head_good.Reads as reads
-use Rattle.audit.proofs.head_good.Lts as lts
+use Rattle.pages.proofs.head_good.Statement.{statement}
+use Rattle.pages.proofs.head_good.Tie as tie
+use Rattle.pages.proofs.head_good.Reads as reads
+use Rattle.pages.proofs.head_good.Lts as lts
 use Rattle.words.proofs.read.Reads as read-reads
 
 mul-read : tie.Need-mul-read

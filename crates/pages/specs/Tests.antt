@@ -1,5 +1,5 @@
 -- The tests of one page, as code goes through its words.
-use mathlib.Core.Bool.{Bool, true, false, _&&_, not}
+use mathlib.Core.Bool.{Bool, true, _&&_, not}
 use mathlib.Core.List.{List, [], _∷_}
 use mathlib.Core.Path.{_≡_}
 use Prim.Native.Nat.{ℕ, zero, suc, _+_, _*_, _≤_, _<_, _^_}
@@ -11,7 +11,6 @@ use Rattle.kdb.specs.Pool.{domains}
 use Rattle.kdb.proofs.Words.{keysBy}
 use Rattle.words.specs.Loops.{allBy}
 use Rattle.words.specs.Words.{wordAt, Paged}
-use Rattle.audit.specs.declared.Seen.{Seen}
 
 -- the key at word a, and those of m records from word a on
 abbrev pub keyIn : List ℕ → ℕ → ℕ → Key
@@ -45,10 +44,6 @@ pub record PointIn (w : List ℕ) (k a : ℕ) : Type 0 where
 -- the four words before the entries of page j: this kind, at most so many entries, a domain below k, zero
 abbrev pub headOf : List ℕ → ℕ → ℕ → ℕ → ℕ → Bool
 headOf w k j kind full = eqb (wordAt w j 0) kind && leb (wordAt w j 1) full && ltb (wordAt w j 2) k && eqb (wordAt w j 3) 0
-
--- no page was bad, and j is a number below n that was not met
-abbrev pub freshOf : ℕ → ℕ → List ℕ → Seen → Bool
-freshOf n j m s = not (s .bad) && not (eqb j 0) && ltb j n && eqb (getD m j 0) 0
 
 -- a pool of n pages and k domains, with a region of k domains at word b of v
 pub record Held (w : List ℕ) (n k : ℕ) (v : List ℕ) (b : ℕ) : Type 0 where

@@ -1,14 +1,14 @@
--- `audit::region_page` meets its contract: head, tail and tiling, each read within the pool.
+-- `pages::region_page` meets its contract: head, tail and tiling, each read within the pool.
 use mathlib.Core.Path.{sym, _∙_}
 use borrow.Author.Tests.{not-true, not-false}
-use Rattle.audit.proofs.OnePage.{regions-head, regions-tail, regions-last, region-room}
+use Rattle.pages.proofs.OnePage.{regions-head, regions-tail, regions-last, region-room}
 use borrow.Author.Needs.{needs}
 use native.Mathlib.Omega.{arith}
-use Rattle.audit.proofs.region_page.Statement.{statement}
-use Rattle.audit.proofs.region_page.Tie as tie
-use Rattle.audit.proofs.region_page.Reads as reads
-use Rattle.audit.proofs.region_page.Lts as lts
-use Rattle.audit.proofs.head_good.Reads as head-good-reads
+use Rattle.pages.proofs.region_page.Statement.{statement}
+use Rattle.pages.proofs.region_page.Tie as tie
+use Rattle.pages.proofs.region_page.Reads as reads
+use Rattle.pages.proofs.region_page.Lts as lts
+use Rattle.pages.proofs.head_good.Reads as head-good-reads
 use Rattle.cover.proofs.tiled.Reads as tiled-reads
 use Rattle.words.proofs.regions_per.Reads as regions-per-reads
 use Rattle.words.proofs.read.Reads as read-reads

@@ -11,7 +11,7 @@ use Rattle.kdb.specs.Shape.{PointPage, RegionPage}
 use Rattle.kdb.specs.Pool.{domains, view}
 use Rattle.kdb.proofs.Lists.{and-l, and-r, and-i, same-eq, same-refl}
 use Rattle.kdb.proofs.Pool.{point-says, says-point, region-says, says-region}
-use Rattle.audit.specs.Walk.{laidOut, soundPoints, soundRegions}
+use Rattle.pages.specs.Kinds.{laidOut, soundPoints, soundRegions}
 
 module _ (L : ℕ) (w : List ℕ) where
   -- what the two tests of a page say

@@ -1,12 +1,12 @@
--- `audit::alone_if` meets its contract.
-use Rattle.audit.proofs.Slots.{point-all}
+-- `pages::alone_if` meets its contract.
+use Rattle.pages.proofs.Slots.{point-all}
 use borrow.Author.Needs.{needs}
 use native.Mathlib.Omega.{arith}
-use Rattle.audit.proofs.alone_if.Statement.{statement}
-use Rattle.audit.proofs.alone_if.Tie as tie
-use Rattle.audit.proofs.alone_if.Reads as reads
-use Rattle.audit.proofs.alone_if.Lts as lts
-use Rattle.audit.proofs.differs.Reads as differs-reads
+use Rattle.pages.proofs.alone_if.Statement.{statement}
+use Rattle.pages.proofs.alone_if.Tie as tie
+use Rattle.pages.proofs.alone_if.Reads as reads
+use Rattle.pages.proofs.alone_if.Lts as lts
+use Rattle.pages.proofs.differs.Reads as differs-reads
 
 add-differs : tie.Need-add-differs
 add-differs c = search needs
