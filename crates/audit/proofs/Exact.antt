@@ -26,9 +26,10 @@ use Rattle.kdb.proofs.Views.{Under, whole-under, tiles-under, whole-finite, amo
 use Rattle.kdb.proofs.Stands.{Stands}
 use Rattle.kdb.proofs.Pool.{length-iff, header-iff, boxes-at-page, used-number, Sound-stands, sound-iff}
 use Rattle.audit.specs.Walk.{calm, walkOf, freeOf, restOf, unmarked, audited}
-use Rattle.audit.proofs.Here.{PointsHere, RegionsHere, points-say, say-points, regions-say, say-regions}
+use Rattle.pages.proofs.Here.{PointsHere, RegionsHere, points-say, say-points, regions-say, say-regions}
 use Rattle.audit.proofs.Marks.{Marks, done, marks-nil, Adds, adds, marks-inside, marks}
-use Rattle.audit.proofs.Walks.{case, no-recs, Shown, recsAt, pointsOn, Good, page-shows, page-runs}
+use Rattle.pages.proofs.Bits.{case}
+use Rattle.audit.proofs.Walks.{no-recs, Shown, recsAt, pointsOn, Good, page-shows, page-runs}
 
 -- a page of one kind has nothing of the other
 no-ents : (v : Page) → T (isPoints v) → entsIn v ≡ []

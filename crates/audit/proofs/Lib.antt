@@ -1,9 +1,4 @@
 pub mod Marks
 pub mod Walks
-pub mod Here
 pub mod Exact
-pub mod Laying
-pub mod OnePage
-pub mod Slots
 pub mod Turns
-pub mod Bits

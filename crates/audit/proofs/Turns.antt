@@ -4,22 +4,25 @@ use mathlib.Core.List.{List, [], _∷_}
 use mathlib.Core.Path.{_≡_, refl, sym, ap, _∙_}
 use Prim.Native.Nat.{ℕ, zero, suc, _+_, _-_, _*_, _<_, _≤_}
 use native.Mathlib.Omega.{arith}
+use native.Mathlib.Numerals.{add-one}
 use lib.Dec.{ltb, eqb}
 use lib.ListN.{length, drop, getD, set}
 use borrow.Author.Tests.{eq-eqb, ne-eqb, lt-ltb, le-ltb, ltb-true, eqb-false, not-true}
-use Rattle.kdb.specs.Lists.{every}
+use Rattle.kdb.specs.Lists.{every, upFrom}
 use Rattle.kdb.specs.Box.{Box, whole}
 use Rattle.kdb.specs.Pages.{Ent, recsIn, entsIn, readEnts, page}
 use Rattle.kdb.specs.Pool.{domains, rootAt, levelsAt, countAt, view}
 use Rattle.kdb.specs.Calls.{L}
-use Rattle.kdb.proofs.Lists.{and-t}
+use Rattle.kdb.proofs.Lists.{and-t, and-true, and-assoc}
 use Rattle.kdb.proofs.Words.{entAt, ent-turn}
+use Rattle.words.specs.Loops.{allBy}
 use Rattle.words.specs.Words.{Paged}
 use Rattle.words.proofs.Laws.{pages}
 use Rattle.cover.specs.Boxes.{regionIn}
 use Rattle.audit.specs.declared.Seen.{Seen}
-use Rattle.audit.specs.Tests.{freshOf, Numbered}
-use Rattle.audit.specs.Walk.{Way, spoilt, calm, through, soundPoints, soundRegions, fresh, leafOf, pageOf, walkOf, freeOf, restOf, unmarked, audited}
+use Rattle.pages.specs.Tests.{Numbered}
+use Rattle.pages.specs.Kinds.{soundPoints, soundRegions}
+use Rattle.audit.specs.Walk.{Way, spoilt, calm, through, freshOf, fresh, leafOf, pageOf, walkOf, freeOf, restOf, unmarked, audited}
 
 module _ (step : Ent → Seen → List ℕ → Way) (w : List ℕ) (k c e a : ℕ) (s : Seen) (m : List ℕ) (v : Way) where
   pub entries-end : through step (readEnts k (c - e) (drop a w)) s m ≡ v → c ≤ e → (s, m) ≡ v
@@ -126,3 +129,9 @@ module _ (w : List ℕ) (t : Way) (e : t ≡ walkOf L w unmarked) where
       go true b c h = absurd (let z : _≡_ {A = ℕ} 0 1 = cc in omega arith)
       go false true c h = refl
       go false false c h = absurd (let z : _≡_ {A = ℕ} 0 1 = cc in omega arith)
+
+-- a loop over page numbers
+pub number-loop : (m : ℕ) (f : ℕ → Bool) (a : ℕ) (ok : Bool) → allBy m (λ n j. f j) 1 a ok ≡ ok && every f (upFrom m a)
+unfolding allBy
+number-loop zero f a ok = sym (and-true ok)
+number-loop (suc m) f a ok = number-loop m f (a + 1) (ok && f a) ∙ (and-assoc ok _ _ ∙ ap (λ (x : ℕ). ok && (f a && every f (upFrom m x))) (add-one a))

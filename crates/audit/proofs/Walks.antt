@@ -1,6 +1,6 @@
 -- The walk with marks, said without them. `page-shows`: a walk that met no bad page has shown that all it reached is good, each page once,
 -- and counted the points. `page-runs`: where that holds, the walk meets no bad page.
-use mathlib.Core.Bool.{Bool, true, false, _&&_, not}
+use mathlib.Core.Bool.{true, false, _&&_, not}
 use mathlib.Core.List.{List, [], _∷_, map}
 use mathlib.Core.Path.{_≡_, refl, sym, ap, ap₂, _∙_}
 use Prim.Native.Nat.{ℕ, zero, suc, _+_, _-_, _<_, _≤_}
@@ -15,16 +15,11 @@ use Rattle.kdb.specs.Pages.{Ent, Page, blank, points, regions, recsIn, entsIn, 
 use Rattle.kdb.specs.Pool.{pagesIn, view, reachedFrom}
 use Rattle.kdb.proofs.Lists.{and-l, and-r, is-true, is-false, of-true, sum-append}
 use Rattle.audit.specs.declared.Seen.{Seen}
-use Rattle.audit.specs.Walk.{Way, calm, through, laidOut, soundPoints, soundRegions, fresh, leafOf, pageOf}
+use Rattle.pages.specs.Kinds.{soundPoints, soundRegions}
+use Rattle.pages.proofs.Here.{regions-say}
+use Rattle.pages.proofs.Bits.{case, true-false}
+use Rattle.audit.specs.Walk.{Way, calm, through, fresh, leafOf, pageOf}
 use Rattle.audit.proofs.Marks.{Marks, done, next, marks-append, marks-nil, marks-split, first}
-
--- by cases on a test, with its equation
-pub case {ℓ} : {C : Type ℓ} (b : Bool) → (b ≡ true → C) → (b ≡ false → C) → C
-case true f g = f refl
-case false f g = g refl
-
-pub true-false {ℓ} : {C : Type ℓ} → true ≡ false → C
-true-false e = absurd (let z : _≡_ {A = ℕ} 0 1 = cc in omega arith)
 
 pub no-recs : (v : Page) → T (isRegions v) → recsIn v ≡ []
 no-recs blank t = absurd t
@@ -52,8 +47,7 @@ module _ (L : ℕ) (w : List ℕ) where
   Good (suc l) j r = T (soundRegions L w j r) × Each (λ e. Good l (e .child) (e .box)) (entsIn (view L w j))
 
   pub regions-are : (j : ℕ) (r : Box) → T (soundRegions L w j r) → T (isRegions (view L w j))
-  unfolding soundRegions
-  regions-are j r t = and-r (laidOut L w j) _ (and-l (laidOut L w j && isRegions (view L w j)) _ t)
+  regions-are j r t = regions-say L w j r t .is
 
   record Fresh (j : ℕ) (m : List ℕ) (s : Seen) : Type 0 where
     calmly : s .bad ≡ false

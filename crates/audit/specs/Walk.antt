@@ -5,13 +5,12 @@ use mathlib.Core.List.{List, [], _∷_}
 use Prim.Native.Nat.{ℕ, zero, suc, _-_}
 use lib.Dec.{ltb, eqb}
 use lib.ListN.{length, getD, set, replicate}
-use Rattle.kdb.specs.Lists.{every, same}
+use Rattle.kdb.specs.Lists.{every}
 use Rattle.kdb.specs.Box.{Box, whole}
-use Rattle.kdb.specs.Pages.{Ent, regionsPer, pointsPer, domain, recsIn, entsIn, boxesIn, isPoints, isRegions, printPage, page}
-use Rattle.kdb.specs.Shape.{pointPage, regionPage}
+use Rattle.kdb.specs.Pages.{Ent, recsIn, entsIn, page}
 use Rattle.kdb.specs.Pool.{domains, rootAt, levelsAt, countAt, pagesIn, view, numbers}
 use Rattle.audit.specs.declared.Seen.{Seen}
-use Rattle.audit.specs.Tests.{freshOf}
+use Rattle.pages.specs.Kinds.{soundPoints, soundRegions}
 
 -- what a walk has met, and the marks
 abbrev pub Way : Type 0
@@ -27,6 +26,10 @@ calm left = record { bad = false; left = left }
 abbrev pub unmarked : List ℕ
 unmarked = replicate 512 0
 
+-- no page was bad, and j is a number below n that was not met
+abbrev pub freshOf : ℕ → ℕ → List ℕ → Seen → Bool
+freshOf n j m s = not (s .bad) && not (eqb j 0) && ltb j n && eqb (getD m j 0) 0
+
 -- entry by entry
 unfoldable pub through : (Ent → Seen → List ℕ → Way) → List Ent → Seen → List ℕ → Way
 through step [] s m = (s, m)
@@ -34,21 +37,6 @@ through step (e ∷ es) s m = let t = step e s m in through step es (t .0) (t .1
 
 -- L is the words of a page, w the pool's words
 module _ (L : ℕ) (w : List ℕ) where
-  abbrev pub laidOut : ℕ → Bool
-  laidOut j = same (page L w j) (printPage L (view L w j))
-
-  -- page j has the layout, and is a point page of region r
-  unfoldable pub soundPoints : ℕ → Box → Bool
-  soundPoints j r =
-      laidOut j && isPoints (view L w j)
-      && pointPage (domains w) (regionsPer L (domains w)) (pointsPer L (domains w)) (domain (view L w j)) (recsIn (view L w j)) r
-
-  -- page j has the layout, and is a region page of region r
-  unfoldable pub soundRegions : ℕ → Box → Bool
-  soundRegions j r =
-      laidOut j && isRegions (view L w j)
-      && regionPage (domains w) (regionsPer L (domains w)) (pointsPer L (domains w)) (domain (view L w j)) (boxesIn (view L w j)) r
-
   abbrev pub fresh : ℕ → List ℕ → Seen → Bool
   fresh j m s = freshOf (pagesIn L w) j m s
 
@@ -56,14 +44,14 @@ module _ (L : ℕ) (w : List ℕ) where
   unfoldable pub leafOf : ℕ → Box → ℕ → Seen
   leafOf j r left =
       let n = length (recsIn (view L w j)) in
-      cond (soundPoints j r) (cond (ltb left n) (spoilt left) (calm (left - n))) (spoilt left)
+      cond (soundPoints L w j r) (cond (ltb left n) (spoilt left) (calm (left - n))) (spoilt left)
 
   -- page j, l levels of region pages above the points, of region r, and all below it
   unfoldable pub pageOf : ℕ → ℕ → Box → Seen → List ℕ → Way
   pageOf zero j r s m = cond (fresh j m s) (leafOf j r (s .left), set m j 1) (spoilt (s .left), m)
   pageOf (suc l) j r s m =
       let t = through (λ e. pageOf l (e .child) (e .box)) (entsIn (view L w j)) (calm (s .left)) (set m j 1) in
-      cond (fresh j m s) (cond (soundRegions j r) t (spoilt (s .left), set m j 1)) (spoilt (s .left), m)
+      cond (fresh j m s) (cond (soundRegions L w j r) t (spoilt (s .left), set m j 1)) (spoilt (s .left), m)
 
   -- all that the header's root names
   unfoldable pub walkOf : List ℕ → Way

@@ -24,7 +24,7 @@ use Rattle.kdb.proofs.Words.{keysBy}
 use Rattle.cut.specs.Keys.{keyIn, keysIn}
 use Rattle.cut.specs.Chosen.{cutAs}
 use Rattle.cut.specs.declared.Chosen.{Chosen}
-use Rattle.split.specs.Part.{claimed, halfIn}
+use Rattle.deal.specs.Part.{claimed, halfIn}
 use Rattle.steps.specs.Machine.{Claimed, word, appendIn, overfull}
 use Rattle.steps.specs.Split.{partPoints, partRegions, splitIn}
 use Rattle.steps.specs.Grow.{short, fine, broke, Grown, brokeAt, boxAt, seekIn, breakPoints, breakRegions, widenIn, upIn, growIn}

@@ -2,11 +2,11 @@
 // pages break.
 use boxes::point_in;
 use cut::choose;
-use split::append;
-use split::copy_part;
-use split::half;
-use split::has;
-use split::part_points;
+use deal::append;
+use deal::copy_part;
+use deal::half;
+use deal::has;
+use deal::part_points;
 use split::part_regions;
 use words::get;
 use words::points_per;

@@ -14,7 +14,8 @@ use Rattle.kdb.specs.Box.{Key}
 use Rattle.kdb.specs.Calls.{L}
 use Rattle.kdb.specs.Pages.{regionsPer, pointsPer}
 use Rattle.kdb.specs.Pool.{domains, rootAt, levelsAt, countAt, pagesIn}
-use Rattle.split.specs.Part.{claimed, passed, halfIn}
+use Rattle.deal.specs.Part.{claimed, halfIn}
+use Rattle.split.specs.Part.{passed}
 use Rattle.grow.specs.Grown.{grownAs}
 use Rattle.grow.specs.declared.Grown.{Grown as Answer}
 use Rattle.steps.specs.Machine.{word, freshIn, appendIn}

@@ -1,10 +1,10 @@
 // Placing and removing in a pool: the root grows, a new root or the first page is claimed, and the header is written last.
+use deal::append;
+use deal::append_half;
+use deal::claim;
 use grow::Grown;
 use grow::grow;
 use grow::write_record;
-use split::append;
-use split::append_half;
-use split::claim;
 use words::clear;
 use words::copy;
 use words::get;

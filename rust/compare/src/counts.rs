@@ -1,7 +1,6 @@
 //! What a run has met, and what it has to have met.
 
-use crate::sequences::{histories, AFTER_9, HISTORY};
-use crate::spoilt::KINDS;
+use crate::kinds::{histories, AFTER_9, HISTORY, KINDS};
 use crate::step::CALLS;
 use std::collections::BTreeSet;
 

@@ -3,8 +3,9 @@
 //! Each is the second program with one fault. They say nothing about the proved program; they test this one.
 
 use crate::index::{Answer, Index, Second};
+use second::opened::{open, Opened};
 use second::place::Reason;
-use second::words::{header, open, Opened, PAGE};
+use second::words::{header, PAGE};
 use second::{Node, Record};
 
 /// Broken indexes: name and fault.

@@ -1,14 +1,16 @@
 //! The comparison of a signal index with the second program. `main.rs` says how it is used.
 //!
+//! Each module uses only those above it:
+//!
 //! - `index`: the six calls as both programs are asked for them.
 //! - `step`: the steps of a sequence and their text.
 //! - `pair`: two programs side by side, every word compared.
-//! - `run`: a sequence as it is taken, written down and counted.
 //! - `random`, `pools`: keys and pools to start from.
+//! - `kinds`, `counts`: what is counted; what was met and what has to be.
+//! - `run`: a sequence as it is taken, written down and counted.
 //! - `sequences`, `spoilt`, `long`, `frames`: the parts of the comparison.
-//! - `jobs`: the jobs of a round and the threads that do them.
-//! - `counts`: what was met and what has to be.
 //! - `cut`: a failing sequence cut down.
+//! - `jobs`: the jobs of a round and the threads that do them.
 //! - `supervise`: the process that works dies, and still a sequence is cut down.
 //! - `faults`: indexes broken on purpose, to see that the comparison sees it.
 
@@ -18,6 +20,7 @@ pub mod faults;
 pub mod frames;
 pub mod index;
 pub mod jobs;
+pub mod kinds;
 pub mod long;
 pub mod pair;
 pub mod pools;

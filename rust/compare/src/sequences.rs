@@ -1,6 +1,7 @@
 //! Long random sequences of calls, refused calls of every kind among them, and whole histories of one pool.
 
 use crate::index::Answer;
+use crate::kinds::{AFTER_9, HISTORY};
 use crate::pools;
 use crate::random::{Keys, Random, Shape, INFINITY, TOP};
 use crate::run::{empty_pages, region_of, Outcome, Run};
@@ -39,23 +40,6 @@ const PHASES: [[usize; 6]; 5] = [
 
 /// The shares of a history's calls before its first 9: it grows.
 const GROWING: [usize; 6] = [76, 5, 7, 8, 1, 3];
-/// The calls of a history: at least so many, and at least so many after its first 9.
-pub const HISTORY: u64 = 3000;
-pub const AFTER_9: u64 = 1000;
-
-/// The histories, by K and the shape of the keys. With one key `Rising` is `Ascending`.
-pub fn histories() -> Vec<(usize, Shape)> {
-    let shapes = [
-        Shape::Uniform,
-        Shape::Clustered,
-        Shape::Ascending,
-        Shape::Rising,
-    ];
-    let all = shapes
-        .into_iter()
-        .flat_map(|shape| (1..=4).map(move |k| (k, shape)));
-    all.filter(|which| *which != (1, Shape::Rising)).collect()
-}
 
 struct Sequence<'r, 'a> {
     run: &'r mut Run<'a>,

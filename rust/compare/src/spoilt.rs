@@ -1,36 +1,12 @@
 //! Spoilt pools: a pool is made, spoilt in one way or another, and every call is tried on it.
 
+use crate::kinds::KINDS;
 use crate::pools;
 use crate::random::{Keys, Random, INFINITY, SHAPES, TOP};
 use crate::run::{pages_of_kind, reaches_bound, Outcome, Run};
 use crate::sequences::{spoil_arguments, wrong_length};
 use crate::step::{Step, Work};
 use second::words::{points_a_page, regions_a_page, PAGE};
-
-/// The ways to spoil, for the table of counts.
-pub const KINDS: [&str; 21] = [
-    "words changed",
-    "words of used pages changed",
-    "children swapped",
-    "rings",
-    "shared pages",
-    "gaps",
-    "overlaps",
-    "pinwheels",
-    "pinwheels with one end moved",
-    "false counts",
-    "bad headers",
-    "levels and roots",
-    "chains",
-    "chains spoilt",
-    "ladders of shared pages",
-    "random words",
-    "wild pages",
-    "kinds and free pages",
-    "points astray, equal or infinite",
-    "domains, word 3, words behind",
-    "several at once",
-];
 
 /// The pool that a job spoils again and again.
 pub struct Base {

@@ -1,6 +1,7 @@
 //! The frame program: hexadecimal lines in, hexadecimal lines out.
 
-use crate::calls::{self, Refusal};
+use crate::answers::{self, Refusal};
+use crate::calls;
 use crate::words::PAGE;
 
 /// The most digits a frame may have, and the most locations an answer lists.
@@ -62,7 +63,7 @@ impl Session {
                 })
             }
         };
-        let mut text = format!("{:02X}", calls::number(&returned));
+        let mut text = format!("{:02X}", answers::number(&returned));
         for number in returned.unwrap_or_default() {
             text.push_str(&format!("{number:08X}"));
         }

@@ -3,9 +3,10 @@
 //! Two steps: first a tree is grown out of the words, every page taken at most once, so rings and shared
 //! pages end at once; then the finished tree is judged region by region.
 
-use crate::calls::Refusal;
+use crate::answers::Refusal;
+use crate::opened::{open, Opened};
 use crate::tree::{Entry, Node, PointPage, Pool, Region, RegionPage};
-use crate::words::{header, open, page, Header, Opened, INFINITY, PAGE};
+use crate::words::{header, page, Header, INFINITY, PAGE};
 
 /// The tree that the words hold: refusal 1 or 6 if there is none, the pool if it is sound.
 pub fn read(words: &[u32]) -> Result<Pool, Refusal> {

@@ -3,8 +3,9 @@
 //! Both give, beside their answer, the list of the page numbers read, in order, a bad page included if it
 //! has a number from 1 to N - 1.
 
-use crate::calls::{Found, Listed, Refusal};
-use crate::words::{open, Header, Opened};
+use crate::answers::{Found, Listed, Refusal};
+use crate::opened::{open, Opened};
+use crate::words::Header;
 
 /// The walk of find: at each level the first entry that holds the point, and no way back.
 pub fn find(words: &[u32], head: &Header, point: &[u32]) -> (Result<Found, Refusal>, Vec<u32>) {

@@ -8,7 +8,7 @@ use Rattle.kdb.specs.Calls.{L}
 use Rattle.kdb.specs.Pool.{view}
 use Rattle.kdb.specs.Pages.{entsIn, readEnts}
 use Rattle.audit.specs.Walk.{through, pageOf}
-use Rattle.audit.proofs.OnePage.{entries-of}
+use Rattle.pages.proofs.OnePage.{entries-of}
 use Rattle.cover.specs.Boxes.{Row}
 use Rattle.cover.proofs.Loops.{row-next, row-first}
 use Rattle.audit.proofs.Turns.{fresh-number, entries-end, entries-next, page-bad, page-leaf, page-spoilt, page-entries}
@@ -22,7 +22,7 @@ use Rattle.audit.proofs.page.Kinds as page-kinds
 use Rattle.audit.proofs.+page.Lts-page as page-lts
 use Rattle.audit.proofs.fresh.Reads as fresh-reads
 use Rattle.audit.proofs.leaf.Reads as leaf-reads
-use Rattle.audit.proofs.region_page.Reads as region-page-reads
+use Rattle.pages.proofs.region_page.Reads as region-page-reads
 use Rattle.words.proofs.put.Reads as put-reads
 use Rattle.words.proofs.read.Reads as read-reads
 use Rattle.audit.proofs.+page.{statement}

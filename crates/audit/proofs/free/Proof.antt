@@ -1,6 +1,6 @@
 -- `audit::free` meets its contract: page j was met, or is all zero.
 use mathlib.Core.Path.{sym, _∙_}
-use Rattle.audit.proofs.OnePage.{zero-page}
+use Rattle.pages.proofs.OnePage.{zero-page}
 use Rattle.audit.proofs.Turns.{free-met, free-not}
 use borrow.Author.Needs.{needs}
 use Rattle.audit.proofs.free.Statement.{statement}

@@ -2,14 +2,14 @@
 use mathlib.Core.Path.{sym, _∙_}
 use borrow.Author.Tests.{not-true, not-false}
 use Rattle.audit.proofs.Turns.{leaf-bad, leaf-few, leaf-found}
-use Rattle.audit.proofs.OnePage.{points-count}
+use Rattle.pages.proofs.OnePage.{points-count}
 use borrow.Author.Needs.{needs}
 use native.Mathlib.Omega.{arith}
 use Rattle.audit.proofs.leaf.Statement.{statement}
 use Rattle.audit.proofs.leaf.Tie as tie
 use Rattle.audit.proofs.leaf.Reads as reads
 use Rattle.audit.proofs.leaf.Lts as lts
-use Rattle.audit.proofs.point_page.Reads as point-page-reads
+use Rattle.pages.proofs.point_page.Reads as point-page-reads
 use Rattle.words.proofs.read.Reads as read-reads
 
 point-page-requires : tie.Need-point-page-requires

@@ -7,7 +7,7 @@ use Rattle.words.proofs.Loops.{all-end, all-next}
 use Rattle.kdb.specs.Calls.{L}
 use Rattle.words.proofs.Laws.{pages}
 use Rattle.audit.specs.Walk.{freeOf, restOf}
-use Rattle.audit.proofs.Slots.{number-loop}
+use Rattle.audit.proofs.Turns.{number-loop}
 use borrow.Author.Needs.{needs}
 use native.Mathlib.Omega.{arith}
 use Rattle.audit.proofs.rest.Statement.{statement}

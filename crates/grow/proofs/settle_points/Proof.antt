@@ -18,7 +18,7 @@ use Rattle.grow.proofs.settle_points.Reads as reads
 use Rattle.grow.proofs.settle_points.Lts as lts
 use Rattle.grow.proofs.break_points.Reads as break-points-reads
 use Rattle.grow.proofs.copy_overfull.Reads as copy-overfull-reads
-use Rattle.split.proofs.append.Reads as append-reads
+use Rattle.deal.proofs.append.Reads as append-reads
 use Rattle.words.proofs.points_per.Reads as points-per-reads
 
 points-per-requires : tie.Need-points-per-requires

@@ -17,7 +17,7 @@ use Rattle.grow.proofs.settle_regions.Reads as reads
 use Rattle.grow.proofs.settle_regions.Lts as lts
 use Rattle.grow.proofs.break_regions.Reads as break-regions-reads
 use Rattle.grow.proofs.copy_overfull.Reads as copy-overfull-reads
-use Rattle.split.proofs.append.Reads as append-reads
+use Rattle.deal.proofs.append.Reads as append-reads
 use Rattle.words.proofs.regions_per.Reads as regions-per-reads
 
 regions-per-requires : tie.Need-regions-per-requires

@@ -6,7 +6,7 @@ use lib.ListN.{take, drop, set, length-take, replicate}
 use Rattle.steps.specs.Machine.{word}
 use Rattle.grow.specs.Grown.{settleRegions}
 use mathlib.Core.Path.{sym, ap, ap₂, _∙_}
-use Rattle.split.proofs.Laws.{half-take}
+use Rattle.deal.proofs.Laws.{half-take}
 use Rattle.grow.proofs.Laws.{widen-is}
 use borrow.Author.Needs.{needs}
 use native.Mathlib.Omega.{arith}
@@ -15,8 +15,8 @@ use Rattle.grow.proofs.widen.Tie as tie
 use Rattle.grow.proofs.widen.Reads as reads
 use Rattle.grow.proofs.widen.Lts as lts
 use Rattle.grow.proofs.settle_regions.Reads as settle-regions-reads
-use Rattle.split.proofs.half.Reads as half-reads
-use Rattle.split.proofs.has.Reads as has-reads
+use Rattle.deal.proofs.half.Reads as half-reads
+use Rattle.deal.proofs.has.Reads as has-reads
 use Rattle.words.proofs.put.Reads as put-reads
 use Rattle.words.proofs.word.Reads as word-reads
 

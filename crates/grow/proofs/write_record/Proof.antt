@@ -8,7 +8,7 @@ use Rattle.grow.proofs.write_record.Statement.{statement}
 use Rattle.grow.proofs.write_record.Tie as tie
 use Rattle.grow.proofs.write_record.Reads as reads
 use Rattle.grow.proofs.write_record.Lts as lts
-use Rattle.split.proofs.copy_part.Reads as copy-part-reads
+use Rattle.deal.proofs.copy_part.Reads as copy-part-reads
 use Rattle.words.proofs.put.Reads as put-reads
 
 copy-part-requires : tie.Need-copy-part-requires

@@ -18,8 +18,8 @@ use Rattle.place.proofs.first_point.Reads as reads
 use Rattle.place.proofs.first_point.Lts as lts
 use Rattle.grow.proofs.write_record.Reads as write-record-reads
 use Rattle.place.proofs.write_header.Reads as write-header-reads
-use Rattle.split.proofs.append.Reads as append-reads
-use Rattle.split.proofs.claim.Reads as claim-reads
+use Rattle.deal.proofs.append.Reads as append-reads
+use Rattle.deal.proofs.claim.Reads as claim-reads
 
 claim-requires : tie.Need-claim-requires
 claim-requires c κs = search needs

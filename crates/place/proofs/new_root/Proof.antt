@@ -13,8 +13,8 @@ use Rattle.place.proofs.new_root.Tie as tie
 use Rattle.place.proofs.new_root.Reads as reads
 use Rattle.place.proofs.new_root.Lts as lts
 use Rattle.place.proofs.write_header.Reads as write-header-reads
-use Rattle.split.proofs.append_half.Reads as append-half-reads
-use Rattle.split.proofs.claim.Reads as claim-reads
+use Rattle.deal.proofs.append_half.Reads as append-half-reads
+use Rattle.deal.proofs.claim.Reads as claim-reads
 
 claim-requires : tie.Need-claim-requires
 claim-requires c κs = search needs

@@ -16,12 +16,12 @@ use Rattle.split.proofs.+entry_pass+split_page.Lts-entry_pass as entry-
 use Rattle.split.proofs.split_page.Reads as split-page
 use Rattle.split.proofs.split_page.Kinds as split-page-kinds
 use Rattle.split.proofs.+entry_pass+split_page.Lts-split_page as split-page-lts
-use Rattle.split.proofs.copy_part.Reads as copy-part-reads
-use Rattle.split.proofs.crosses.Reads as crosses-reads
-use Rattle.split.proofs.deal_both.Reads as deal-both-reads
-use Rattle.split.proofs.deal_entry.Reads as deal-entry-reads
-use Rattle.split.proofs.open_pages.Reads as open-pages-reads
-use Rattle.split.proofs.part_points.Reads as part-points-reads
+use Rattle.deal.proofs.copy_part.Reads as copy-part-reads
+use Rattle.deal.proofs.crosses.Reads as crosses-reads
+use Rattle.deal.proofs.deal_both.Reads as deal-both-reads
+use Rattle.deal.proofs.deal_entry.Reads as deal-entry-reads
+use Rattle.deal.proofs.open_pages.Reads as open-pages-reads
+use Rattle.deal.proofs.part_points.Reads as part-points-reads
 use Rattle.words.proofs.get.Reads as get-reads
 use Rattle.words.proofs.word.Reads as word-reads
 use Rattle.split.proofs.+entry_pass+split_page.{statement}
