@@ -28,16 +28,14 @@ use Rattle.kdb.proofs.Views.{finite-whole}
 use Rattle.kdb.proofs.Print.{read-state}
 use Rattle.kdb.proofs.Pool.{length-iff, print-sound, sound-iff, Sound-stands}
 use Rattle.kdb.proofs.Format.{formatted-printed, none-formed, formatted-is}
-use Rattle.kdb.proofs.Grow.{roomy-32, placed-formed, removed-formed, key-once, Placing, Placed}
+use Rattle.kdb.proofs.Length.{big, roomy}
+use Rattle.kdb.proofs.Grow.{placed-formed, removed-formed, key-once, Placing, Placed}
 use Rattle.kdb.proofs.Reading.{Answers, find-rootless, find-answers, list-reads, list-once, list-count, find-reads}
 use Rattle.kdb.proofs.Windows.{good-meets, point-good, point-reads, point-path}
 use Rattle.kdb.proofs.Bad.{find-levels, find-trail, list-bound}
 use Rattle.kdb.proofs.Calls.{done, goes-on, refusal-keeps, check-still, find-still, list-still}
 use Rattle.kdb.proofs.History.{without-tally, changed-same}
 use Rattle.kdb.proofs.Answers.{list-begins, find-begins, list-answers, find-finds}
-
-pub big : 5 ≤ L
-big = omega arith
 
 -- a printed state: sound, and read back
 printed-sound : (k N : ℕ) (s : State) → WellFormed L k N s → Sound L (printed L k N s)
@@ -95,7 +93,7 @@ pub place-placing : (w work p : List ℕ) (l : ℕ) → T (begins w (place work 
 place-placing w work p l h =
     let c = place-passed w work p l h in
     let f = Sound-stands L w (c .0 .well) big .formed in
-    record { roomy = roomy-32 (domains w) (f .domains .0) (f .domains .1); formed = f; inside = passed-within w p (c .0); new = not-there w p (c .0) (c .1) }
+    record { roomy = roomy (domains w) (f .domains .0) (f .domains .1); formed = f; inside = passed-within w p (c .0); new = not-there w p (c .0) (c .1) }
 
 -- a done place: the step's state, well-formed and with one record more, and the pool after it
 pub record PlaceDone (w work p : List ℕ) (l : ℕ) : Type 0 where
@@ -327,7 +325,7 @@ module _ (w : List ℕ) (s : Sound L w) where
 find-levelled : (w p : List ℕ) → T (begins w (find p)) → (outcome w (find p) .number ≡ 6 → ⊥) → length (walkOf w (find p)) ≡ levelsAt w
 find-levelled w p h n =
     ap length (walk-find w p h)
-    ∙ find-levels L w (omega arith) p (λ e. n (ap (λ o. o .number) (goes-on w (find p) h) ∙ go (findWalk L w p) e))
+    ∙ find-levels L w (omega (arith, big)) p (λ e. n (ap (λ o. o .number) (goes-on w (find p) h) ∙ go (findWalk L w p) e))
   where
     go : (g : Search) → g .end ≡ bad → finding g (lent w (find p)) .number ≡ 6
     go g e = rw e
@@ -339,10 +337,10 @@ long-one w t = omega (arith, length-iff L w .0 t)
 list-goes : (w v slots : List ℕ) → T (begins w (list v slots)) → walkOf w (list v slots) ≡ take (pagesIn L w - 1) (upToBad L w (listTrail L w (windowOf (domains w) v)))
 list-goes w v slots h =
     walk-list w v slots h
-    ∙ list-bound L w (omega arith) (long-one w (and-l (goodLength L w) _ h)) (windowOf (domains w) v) .reads
+    ∙ list-bound L w (omega (arith, big)) (long-one w (and-l (goodLength L w) _ h)) (windowOf (domains w) v) .reads
 
 find-goes : (w p : List ℕ) → T (begins w (find p)) → walkOf w (find p) ≡ upToBad L w (findTrail L w p)
-find-goes w p h = walk-find w p h ∙ find-trail L w (omega arith) p
+find-goes w p h = walk-find w p h ∙ find-trail L w (omega (arith, big)) p
 
 pub bounded : (w : List ℕ) → Bounded w
 bounded w =

@@ -74,9 +74,9 @@ into-sited below p h [] = tt
 into-sited below p h (e ∷ es) =
     cases (λ b. SitedEnd (cond b (below (e .child)) (into below p es) .end)) (within (e .box) p) (λ _. h (e .child)) (λ _. into-sited below p h es)
 
--- the records found are at most 28 for each page read
+-- the records found are at most as many for each page read as its words but four
 abbrev Few : Tour → Type 0
-Few t = length (t .found) ≤ 28 * length (t .read)
+Few t = length (t .found) ≤ (L - 4) * length (t .read)
 
 follow-few : (a b : Tour) → Few a → Few b → Few (follow a b)
 follow-few a b s t =
@@ -118,7 +118,7 @@ module _ (w : List ℕ) where
       let found = only (λ s. inWindow v (s .rec .key)) (spots j 0 rs) in
       cases (λ b. Few (cond b (cond (goodPoints L w j) (readAt j found) (badAt j)) astray)) (isPage L w j)
       (λ _. cases (λ b. Few (cond b (readAt j found) (badAt j))) (goodPoints L w j)
-      (λ g. omega (arith, only-most (λ s. inWindow v (s .rec .key)) (spots j 0 rs), length-spots j 0 rs, leb→le (length rs) (pointsPer L (domains w)) (and-r (isPoints (view L w j)) _ g), div-le-self 28 (domains w + 1)))
+      (λ g. omega (arith, only-most (λ s. inWindow v (s .rec .key)) (spots j 0 rs), length-spots j 0 rs, leb→le (length rs) (pointsPer L (domains w)) (and-r (isPoints (view L w j)) _ g), div-le-self (L - 4) (domains w + 1)))
       (λ _. omega arith)) (λ _. omega arith)
   tour-few v (suc n) j =
       at-page Few (isPage L w j) (goodRegions L w j) _ _ _

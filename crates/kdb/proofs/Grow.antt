@@ -8,7 +8,7 @@ use mathlib.Core.Path.{_≡_, refl, sym, ap, _∙_, subst}
 use Prim.Native.Nat.{ℕ, zero, suc, _+_, _-_, _<_, _≤_}
 use native.Mathlib.Omega.{arith}
 use native.Mathlib.Nat.{mod-lt}
-use lib.Dec.{T, leb, eqb, leb→le, le→leb, nleb→lt, T-not, not-T, eqb→eq, lit≤}
+use lib.Dec.{T, leb, eqb, leb→le, le→leb, nleb→lt, T-not, not-T, eqb→eq}
 use lib.ListN.{length, take, drop, getD, length-append, length-drop, drop-of-length-le}
 use lib.Seq.{take-add, take-suc, drop-drop, drop-cons}
 use Rattle.kdb.specs.Lists.{bit, only, tally, every, many, same, upFrom}
@@ -534,14 +534,6 @@ pub record Roomy (L k : ℕ) : Type 0 where
   pub domains : 1 ≤ k
   pub points : 1 ≤ pointsPer L k
   pub regions : 2 ≤ regionsPer L k
-
-pub roomy-32 : (k : ℕ) → 1 ≤ k → k ≤ 4 → Roomy 32 k
-roomy-32 zero h i = absurd (omega arith)
-roomy-32 (suc zero) h i = record { domains = lit≤ tt; points = lit≤ tt; regions = lit≤ tt }
-roomy-32 (suc (suc zero)) h i = record { domains = lit≤ tt; points = lit≤ tt; regions = lit≤ tt }
-roomy-32 (suc (suc (suc zero))) h i = record { domains = lit≤ tt; points = lit≤ tt; regions = lit≤ tt }
-roomy-32 (suc (suc (suc (suc zero)))) h i = record { domains = lit≤ tt; points = lit≤ tt; regions = lit≤ tt }
-roomy-32 (suc (suc (suc (suc (suc k))))) h i = absurd (omega arith)
 
 -- a tree at its own level
 at-levels : (k R P : ℕ) (t : Tree) (n : ℕ) (r : Box) → Shaped k R P t n r → Shaped k R P t (levels t - 1) r

@@ -14,8 +14,9 @@ use Rattle.kdb.specs.Box.{Box, Key, within, meets, inWindow}
 use Rattle.kdb.specs.Pages.{Ent, Page, blank, recsIn, entsIn, isPoints, isRegions, pointsPer, regionsPer, readPage, page}
 use Rattle.kdb.specs.Pool.{domains, rootAt, levelsAt, pagesIn, view, goodLength, goodHeader, isPage}
 use Rattle.kdb.specs.Walk.{Spot, spots, Tour, still, astray, badAt, readAt, follow, through, goodPoints, goodRegions, tour, bounded, listWalk, End, rootless, bad, absent, here, Search, ends, after, spotOf, into, seek, findWalk}
-use Rattle.kdb.specs.Calls.{Call, format, check, place, remove, find, list, Buffers, Outcome, Test, _or_, unless, judge, tests, core, finding, listing, lent, finite, ordered, outcome, windowOf, begins, walkOf}
+use Rattle.kdb.specs.Calls.{L, Call, format, check, place, remove, find, list, Buffers, Outcome, Test, _or_, unless, judge, tests, core, finding, listing, lent, finite, ordered, outcome, windowOf, begins, walkOf}
 use Rattle.kdb.specs.Demands.{Agree, Told, walks, Local}
+use Rattle.kdb.proofs.Length.{big}
 use Rattle.kdb.proofs.Lists.{and-i, bool, cases, is-true, self, tally-front, take-past, take-less, many-append}
 
 -- the walks begin with the same m + 1 pages and, if the first reads no more than m, are the same
@@ -258,25 +259,25 @@ listing-told read false found w w′ answer = record { number = refl; values = r
 
 module _ (w w′ : List ℕ) where
   -- the pages of a walk that begins
-  begun : (b : Bool) (read : List ℕ) → T b → Agree 32 w w′ (cond b read []) → Agree 32 w w′ read
+  begun : (b : Bool) (read : List ℕ) → T b → Agree L w w′ (cond b read []) → Agree L w w′ read
   begun true read t a = a
   begun false read t a = absurd t
 
-  module _ (read : List ℕ) (a : Agree 32 w w′ read) where
+  module _ (read : List ℕ) (a : Agree L w w′ read) where
     word : (i : ℕ) → i < 4 → getD w′ i 0 ≡ getD w i 0
-    word = agree-word 32 (omega arith) w w′ read a
+    word = agree-word L (omega (arith, big)) w w′ read a
 
-    long-same : goodLength 32 w′ ≡ goodLength 32 w
-    long-same = same-length 32 w w′ (a .long)
+    long-same : goodLength L w′ ≡ goodLength L w
+    long-same = same-length L w w′ (a .long)
 
-    header-same : goodHeader 32 w′ ≡ goodHeader 32 w
-    header-same = same-header 32 w w′ (a .long) (a .header) word
+    header-same : goodHeader L w′ ≡ goodHeader L w
+    header-same = same-header L w w′ (a .long) (a .header) word
 
     domains-same : domains w′ ≡ domains w
     domains-same = word 0 (omega arith)
 
   -- a call with a walk is tested alike
-  tests-same : (c : Call) → T (walks c) → Agree 32 w w′ (walkOf w c) → tests w′ c ≡ tests w c
+  tests-same : (c : Call) → T (walks c) → Agree L w w′ (walkOf w c) → tests w′ c ≡ tests w c
   tests-same (format k) t a = absurd t
   tests-same check t a = absurd t
   tests-same (place work p l) t a = absurd t
@@ -284,51 +285,51 @@ module _ (w w′ : List ℕ) where
   tests-same (find p) t a =
       let r = walkOf w (find p) in
       ap₂ (λ x y. (x or 1) ∷ (y or 6) ∷ (eqb (length p) (domains w′) or 3) ∷ (finite p or 4) ∷ []) (long-same r a) (header-same r a)
-      ∙ ap (λ k. (goodLength 32 w or 1) ∷ (goodHeader 32 w or 6) ∷ (eqb (length p) k or 3) ∷ (finite p or 4) ∷ []) (domains-same r a)
+      ∙ ap (λ k. (goodLength L w or 1) ∷ (goodHeader L w or 6) ∷ (eqb (length p) k or 3) ∷ (finite p or 4) ∷ []) (domains-same r a)
   tests-same (list v answer) t a =
       let r = walkOf w (list v answer) in
       ap₂ (λ x y. (x or 1) ∷ (y or 6) ∷ (eqb (length v) (2 * domains w′) or 3) ∷ (finite v or 4) ∷ (ordered (windowOf (domains w′) v) or 5) ∷ []) (long-same r a) (header-same r a)
-      ∙ ap (λ k. (goodLength 32 w or 1) ∷ (goodHeader 32 w or 6) ∷ (eqb (length v) (2 * k) or 3) ∷ (finite v or 4) ∷ (ordered (windowOf k v) or 5) ∷ []) (domains-same r a)
+      ∙ ap (λ k. (goodLength L w or 1) ∷ (goodHeader L w or 6) ∷ (eqb (length v) (2 * k) or 3) ∷ (finite v or 4) ∷ (ordered (windowOf k v) or 5) ∷ []) (domains-same r a)
 
-  begins-same : (c : Call) → T (walks c) → Agree 32 w w′ (walkOf w c) → begins w′ c ≡ begins w c
+  begins-same : (c : Call) → T (walks c) → Agree L w w′ (walkOf w c) → begins w′ c ≡ begins w c
   begins-same c t a = ap (every (λ t. t .holds)) (tests-same c t a)
 
-  found-same : (p : Key) → T (begins w (find p)) → Agree 32 w w′ (walkOf w (find p)) → findWalk 32 w′ p ≡ findWalk 32 w p
-  found-same p t a = find-same 32 (omega arith) w w′ p (begun (begins w (find p)) _ t a)
+  found-same : (p : Key) → T (begins w (find p)) → Agree L w w′ (walkOf w (find p)) → findWalk L w′ p ≡ findWalk L w p
+  found-same p t a = find-same L (omega (arith, big)) w w′ p (begun (begins w (find p)) _ t a)
 
-  listed-same : (v answer : List ℕ) → T (begins w (list v answer)) → Agree 32 w w′ (walkOf w (list v answer))
-      → listWalk 32 w′ (windowOf (domains w′) v) ≡ listWalk 32 w (windowOf (domains w) v)
+  listed-same : (v answer : List ℕ) → T (begins w (list v answer)) → Agree L w w′ (walkOf w (list v answer))
+      → listWalk L w′ (windowOf (domains w′) v) ≡ listWalk L w (windowOf (domains w) v)
   listed-same v answer t a =
-      ap (λ k. listWalk 32 w′ (windowOf k v)) (domains-same (walkOf w (list v answer)) a)
-      ∙ list-same 32 (omega arith) w w′ (windowOf (domains w) v) (begun (begins w (list v answer)) _ t a)
+      ap (λ k. listWalk L w′ (windowOf k v)) (domains-same (walkOf w (list v answer)) a)
+      ∙ list-same L (omega (arith, big)) w w′ (windowOf (domains w) v) (begun (begins w (list v answer)) _ t a)
 
   -- the walk depends on length, header and the pages of the walk alone
-  pub walk-local : (c : Call) → Agree 32 w w′ (walkOf w c) → walkOf w′ c ≡ walkOf w c
+  pub walk-local : (c : Call) → Agree L w w′ (walkOf w c) → walkOf w′ c ≡ walkOf w c
   walk-local (format k) a = refl
   walk-local check a = refl
   walk-local (place work p l) a = refl
   walk-local (remove p) a = refl
   walk-local (find p) a =
-      ap (λ b. cond b (findWalk 32 w′ p .read) []) (begins-same (find p) tt a)
-      ∙ cases (λ b. (T b → findWalk 32 w′ p ≡ findWalk 32 w p) → cond b (findWalk 32 w′ p .read) [] ≡ cond b (findWalk 32 w p .read) []) (begins w (find p))
+      ap (λ b. cond b (findWalk L w′ p .read) []) (begins-same (find p) tt a)
+      ∙ cases (λ b. (T b → findWalk L w′ p ≡ findWalk L w p) → cond b (findWalk L w′ p .read) [] ≡ cond b (findWalk L w p .read) []) (begins w (find p))
       (λ _ f. ap (λ s. s .read) (f tt)) (λ _ _. refl) (λ t. found-same p t a)
   walk-local (list v answer) a =
-      let t′ = listWalk 32 w′ (windowOf (domains w′) v) in
-      let t = listWalk 32 w (windowOf (domains w) v) in
+      let t′ = listWalk L w′ (windowOf (domains w′) v) in
+      let t = listWalk L w (windowOf (domains w) v) in
       ap (λ b. cond b (t′ .read) []) (begins-same (list v answer) tt a)
       ∙ cases (λ b. (T b → t′ ≡ t) → cond b (t′ .read) [] ≡ cond b (t .read) []) (begins w (list v answer))
       (λ _ f. ap (λ s. s .read) (f tt)) (λ _ _. refl) (λ h. listed-same v answer h a)
 
-  core-told : (c : Call) → T (walks c) → Agree 32 w w′ (walkOf w c) → T (begins w c) → Told (core w c) (core w′ c)
+  core-told : (c : Call) → T (walks c) → Agree L w w′ (walkOf w c) → T (begins w c) → Told (core w c) (core w′ c)
   core-told (format k) t a h = absurd t
   core-told check t a h = absurd t
   core-told (place work p l) t a h = absurd t
   core-told (remove p) t a h = absurd t
   core-told (find p) t a h =
-      subst (λ s. Told (finding (findWalk 32 w p) (lent w (find p))) (finding s (lent w′ (find p)))) (sym (found-same p h a))
-      (finding-told (findWalk 32 w p .read) (findWalk 32 w p .end) (lent w (find p)) (lent w′ (find p)) refl)
+      subst (λ s. Told (finding (findWalk L w p) (lent w (find p))) (finding s (lent w′ (find p)))) (sym (found-same p h a))
+      (finding-told (findWalk L w p .read) (findWalk L w p .end) (lent w (find p)) (lent w′ (find p)) refl)
   core-told (list v answer) t a h =
-      let s = listWalk 32 w (windowOf (domains w) v) in
+      let s = listWalk L w (windowOf (domains w) v) in
       subst (λ s′. Told (listing s w answer) (listing s′ w′ answer)) (sym (listed-same v answer h a)) (listing-told (s .read) (s .bad) (s .found) w w′ answer)
 
   lent-answer : (c : Call) → lent w′ c .answer ≡ lent w c .answer
@@ -340,7 +341,7 @@ module _ (w w′ : List ℕ) where
   lent-answer (list v answer) = refl
 
   -- and so do the number, the values and the answer buffer
-  pub told-local : (c : Call) → T (walks c) → Agree 32 w w′ (walkOf w c) → Told (outcome w c) (outcome w′ c)
+  pub told-local : (c : Call) → T (walks c) → Agree L w w′ (walkOf w c) → Told (outcome w c) (outcome w′ c)
   unfolding outcome
   told-local c t a =
       subst (λ ts. Told (judge (tests w c) (lent w c) (core w c)) (judge ts (lent w′ c) (core w′ c))) (sym (tests-same c t a))

@@ -99,35 +99,35 @@ module _ (L : ℕ) (w : List ℕ) where
       (λ _. tt) (λ _. seek-pages p (levelsAt w - 1) (rootAt w))
 
 -- no walk is longer than N − 1, on any words
-pub walk-bound : (w : List ℕ) (c : Call) → length (walkOf w c) ≤ pagesIn 32 w - 1
+pub walk-bound : (w : List ℕ) (c : Call) → length (walkOf w c) ≤ pagesIn L w - 1
 walk-bound w (format k) = omega arith
 walk-bound w check = omega arith
 walk-bound w (place work p l) = omega arith
 walk-bound w (remove p) = omega arith
 walk-bound w (find p) =
-    cases (λ b. length (cond b (findWalk 32 w p .read) []) ≤ pagesIn 32 w - 1) (begins w (find p))
-    (λ h. omega (arith, find-length 32 w p, header-iff 32 w .0 (and-l (goodHeader 32 w) _ (and-r (goodLength 32 w) _ h)))) (λ _. omega arith)
+    cases (λ b. length (cond b (findWalk L w p .read) []) ≤ pagesIn L w - 1) (begins w (find p))
+    (λ h. omega (arith, find-length L w p, header-iff L w .0 (and-l (goodHeader L w) _ (and-r (goodLength L w) _ h)))) (λ _. omega arith)
 walk-bound w (list v answer) =
-    cases (λ b. length (cond b (listWalk 32 w (windowOf (domains w) v) .read) []) ≤ pagesIn 32 w - 1) (begins w (list v answer))
-    (λ _. list-length 32 w (windowOf (domains w) v)) (λ _. omega arith)
+    cases (λ b. length (cond b (listWalk L w (windowOf (domains w) v) .read) []) ≤ pagesIn L w - 1) (begins w (list v answer))
+    (λ _. list-length L w (windowOf (domains w) v)) (λ _. omega arith)
 
 -- every number on a walk is a page's
-walk-every : (w : List ℕ) (c : Call) → T (every (isPage 32 w) (walkOf w c))
+walk-every : (w : List ℕ) (c : Call) → T (every (isPage L w) (walkOf w c))
 walk-every w (format k) = tt
 walk-every w check = tt
 walk-every w (place work p l) = tt
 walk-every w (remove p) = tt
 walk-every w (find p) =
-    cases (λ b. T (every (isPage 32 w) (cond b (findWalk 32 w p .read) []))) (begins w (find p)) (λ _. find-pages 32 w p) (λ _. tt)
+    cases (λ b. T (every (isPage L w) (cond b (findWalk L w p .read) []))) (begins w (find p)) (λ _. find-pages L w p) (λ _. tt)
 walk-every w (list v answer) =
-    cases (λ b. T (every (isPage 32 w) (cond b (listWalk 32 w (windowOf (domains w) v) .read) []))) (begins w (list v answer))
-    (λ _. list-pages 32 w (windowOf (domains w) v)) (λ _. tt)
+    cases (λ b. T (every (isPage L w) (cond b (listWalk L w (windowOf (domains w) v) .read) []))) (begins w (list v answer))
+    (λ _. list-pages L w (windowOf (domains w) v)) (λ _. tt)
 
 pub page-e : (L : ℕ) (w : List ℕ) (j : ℕ) → T (isPage L w j) → (1 ≤ j) × (j < pagesIn L w)
 page-e L w j h = (leb→le 1 j (and-l (leb 1 j) _ h), ltb→lt j (pagesIn L w) (and-r (leb 1 j) _ h))
 
-pub walk-pages : (w : List ℕ) (c : Call) (j : ℕ) → 1 ≤ many j (walkOf w c) → (1 ≤ j) × (j < pagesIn 32 w)
-walk-pages w c j h = page-e 32 w j (every-many (isPage 32 w) (walkOf w c) (walk-every w c) j h)
+pub walk-pages : (w : List ℕ) (c : Call) (j : ℕ) → 1 ≤ many j (walkOf w c) → (1 ≤ j) × (j < pagesIn L w)
+walk-pages w c j h = page-e L w j (every-many (isPage L w) (walkOf w c) (walk-every w c) j h)
 
 -- a call refused before its walk begins reads nothing
 pub walk-silent : (w : List ℕ) (c : Call) → begins w c ≡ false → walkOf w c ≡ []
@@ -147,11 +147,11 @@ walk-list w v slots h = ap (λ b. cond b (listWalk L w (windowOf (domains w) v) 
 
 -- a find that is done has found a record, and returns its location and the walk's length
 pub find-returns : (w p : List ℕ) → outcome w (find p) .number ≡ 0
-    → (x : Spot) × (findWalk 32 w p .end ≡ here x) × (outcome w (find p) .values ≡ x .rec .loc ∷ length (walkOf w (find p)) ∷ [])
+    → (x : Spot) × (findWalk L w p .end ≡ here x) × (outcome w (find p) .values ≡ x .rec .loc ∷ length (walkOf w (find p)) ∷ [])
 unfolding outcome
 find-returns w p z =
     let d = done w (find p) z in
-    let g = findWalk 32 w p in
+    let g = findWalk L w p in
     let told : finding g (lent w (find p)) .number ≡ 0 = sym (ap (λ o. o .number) (d .1)) ∙ z in
     let r = go (g .read) (g .end) (lent w (find p)) told in
     (r .0, r .1, ap (λ o. o .values) (d .1) ∙ (r .2 ∙ ap (λ l. r .0 .rec .loc ∷ length l ∷ []) (sym (walk-find w p (d .0)))))
@@ -165,13 +165,13 @@ find-returns w p z =
 
 -- a list that is done met no bad page, and returns the total found and the walk's length
 pub list-returns : (w v answer : List ℕ) → outcome w (list v answer) .number ≡ 0
-    → (listWalk 32 w (windowOf (domains w) v) .bad ≡ false)
-    × (outcome w (list v answer) .values ≡ length (listWalk 32 w (windowOf (domains w) v) .found) ∷ length (walkOf w (list v answer)) ∷ [])
-    × (outcome w (list v answer) .after .answer ≡ filled answer (listWalk 32 w (windowOf (domains w) v) .found))
+    → (listWalk L w (windowOf (domains w) v) .bad ≡ false)
+    × (outcome w (list v answer) .values ≡ length (listWalk L w (windowOf (domains w) v) .found) ∷ length (walkOf w (list v answer)) ∷ [])
+    × (outcome w (list v answer) .after .answer ≡ filled answer (listWalk L w (windowOf (domains w) v) .found))
 unfolding outcome
 list-returns w v answer z =
     let d = done w (list v answer) z in
-    let t = listWalk 32 w (windowOf (domains w) v) in
+    let t = listWalk L w (windowOf (domains w) v) in
     let told : listing t w answer .number ≡ 0 = sym (ap (λ o. o .number) (d .1)) ∙ z in
     let r = go (t .read) (t .bad) (t .found) told in (
       r .0,

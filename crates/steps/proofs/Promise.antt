@@ -19,7 +19,8 @@ use Rattle.kdb.proofs.Box.{within-length}
 use Rattle.kdb.proofs.Views.{whole-length}
 use Rattle.kdb.proofs.Stands.{Stands}
 use Rattle.kdb.proofs.Grow.{Placing, formed-fair, placed-formed, removed-formed}
-use Rattle.kdb.specs.Calls.{place, remove, Outcome, gives, refuses, begins, core, placing, removing, stepped}
+use Rattle.kdb.specs.Calls.{L, place, remove, Outcome, gives, refuses, begins, core, placing, removing, stepped}
+use Rattle.kdb.proofs.Length.{big}
 use Rattle.kdb.proofs.Pool.{Sound-stands}
 use Rattle.kdb.proofs.Demands.{place-passed, place-placing, remove-passed}
 use Rattle.steps.specs.Machine.{Passed}
@@ -58,23 +59,23 @@ remove-prints L w s p sp big st h = remove-is L w s p sp big st (removed-formed 
 
 -- what place does once its tests hold, by the machine form
 pub place-core : (w work p : List ℕ) (l : ℕ) → T (begins w (place work p l))
-    → core w (place work p l) ≡ cond (placeIn 32 p l w .ok) (gives [] (record { pool = placeIn 32 p l w .words; work = w; answer = [] }))
-    (refuses 9 (record { pool = placeIn 32 p l w .words; work = w; answer = [] }))
+    → core w (place work p l) ≡ cond (placeIn L p l w .ok) (gives [] (record { pool = placeIn L p l w .words; work = w; answer = [] }))
+    (refuses 9 (record { pool = placeIn L p l w .words; work = w; answer = [] }))
 place-core w work p l h =
     let q : Rec = record { key = p; loc = l } in
-    let st = Sound-stands 32 w (place-passed w work p l h .0 .well) (omega arith) in
-    sym (ap shown (place-prints 32 w (stateOf 32 w) q (omega arith) st (place-placing w work p l h)) ∙ go (stepped w q))
+    let st = Sound-stands L w (place-passed w work p l h .0 .well) big in
+    sym (ap shown (place-prints L w (stateOf L w) q big st (place-placing w work p l h)) ∙ go (stepped w q))
   where
     shown : Passed → Outcome
     shown o = cond (o .ok) (gives [] (record { pool = o .words; work = w; answer = [] })) (refuses 9 (record { pool = o .words; work = w; answer = [] }))
 
-    go : (s : Option State) → shown (answered 32 (domains w) (pagesIn 32 w) w s) ≡ placing s w
+    go : (s : Option State) → shown (answered L (domains w) (pagesIn L w) w s) ≡ placing s w
     go none = refl
     go (some s) = refl
 
 -- and remove, where the search ended at the record
-pub remove-core : (w p : List ℕ) (x : Spot) → T (begins w (remove p)) → findWalk 32 w p .end ≡ here x
-    → core w (remove p) ≡ gives (x .rec .loc ∷ []) (record { pool = removeIn 32 (x .page) (x .slot) w; work = []; answer = [] })
+pub remove-core : (w p : List ℕ) (x : Spot) → T (begins w (remove p)) → findWalk L w p .end ≡ here x
+    → core w (remove p) ≡ gives (x .rec .loc ∷ []) (record { pool = removeIn L (x .page) (x .slot) w; work = []; answer = [] })
 remove-core w p x h e =
-    let st = Sound-stands 32 w (remove-passed w p h .well) (omega arith) in
-    ap (λ n. removing n w p) e ∙ ap (λ v. gives (x .rec .loc ∷ []) (record { pool = v; work = []; answer = [] })) (sym (remove-prints 32 w (stateOf 32 w) p x (omega arith) st e))
+    let st = Sound-stands L w (remove-passed w p h .well) big in
+    ap (λ n. removing n w p) e ∙ ap (λ v. gives (x .rec .loc ∷ []) (record { pool = v; work = []; answer = [] })) (sym (remove-prints L w (stateOf L w) p x big st e))
