@@ -19,6 +19,7 @@ use Rattle.kdb.specs.Walk.{Spot, Tour, still, follow, through, goodPoint
 use Rattle.kdb.specs.Bad.{Stop, spoilt, kindAt, sizeAt, badPage, badFor, trail, findTrail, listTrail, upToBad, findStops, listStops, listRecords}
 use Rattle.kdb.specs.Calls.{L, Buffers, finding, listing}
 use Rattle.kdb.specs.Demands.{keyed, slotted}
+use Rattle.kdb.proofs.Length.{four}
 use Rattle.kdb.proofs.Lists.{cases, and-l, is-true, is-false, some-many, length-only, gather-append}
 use Rattle.kdb.proofs.Pages.{word-at}
 use Rattle.kdb.proofs.Walk.{at-page}
@@ -409,7 +410,7 @@ module _ (w : List ℕ) (p : Key) (buffers : Buffers) where
   lastOf read = recsIn (view L w (lastOr 0 read))
 
   pub find-six : (finding (findWalk L w p) buffers .number ≡ 6) ↔ T (findStops L w p)
-  find-six = find-cases L w (omega arith) p (λ g ss. (finding g buffers .number ≡ 6) ↔ T (spoilt ss)) (λ z. absurd (omega arith), λ t. absurd t) go
+  find-six = find-cases L w four p (λ g ss. (finding g buffers .number ≡ 6) ↔ T (spoilt ss)) (λ z. absurd (omega arith), λ t. absurd t) go
     where
       go : (read : List ℕ) (e : End) (ss : List Stop) → EndsAt (λ i. recsIn (view L w i)) p read (spoilt ss) e → read ≡ upToBad L w ss → (finding (ends read e) buffers .number ≡ 6) ↔ T (spoilt ss)
       go read rootless ss a r = absurd a
@@ -419,7 +420,7 @@ module _ (w : List ℕ) (p : Key) (buffers : Buffers) where
 
   pub find-eight : (finding (findWalk L w p) buffers .number ≡ 8) ↔ (T (not (findStops L w p)) × (tally (keyed p) (lastOf (findWalk L w p .read)) ≡ 0))
   find-eight =
-      find-cases L w (omega arith) p (λ g ss. (finding g buffers .number ≡ 8) ↔ (T (not (spoilt ss)) × (tally (keyed p) (lastOf (g .read)) ≡ 0))) (λ z. (tt, refl), λ q. refl) go
+      find-cases L w four p (λ g ss. (finding g buffers .number ≡ 8) ↔ (T (not (spoilt ss)) × (tally (keyed p) (lastOf (g .read)) ≡ 0))) (λ z. (tt, refl), λ q. refl) go
     where
       go : (read : List ℕ) (e : End) (ss : List Stop) → EndsAt (λ i. recsIn (view L w i)) p read (spoilt ss) e → read ≡ upToBad L w ss
           → (finding (ends read e) buffers .number ≡ 8) ↔ (T (not (spoilt ss)) × (tally (keyed p) (lastOf read) ≡ 0))
@@ -433,7 +434,7 @@ module _ (w : List ℕ) (p : Key) (buffers : Buffers) where
 
   pub find-done : (finding (findWalk L w p) buffers .number ≡ 0) ↔ (T (not (findStops L w p)) × (1 ≤ tally (keyed p) (lastOf (findWalk L w p .read))))
   find-done =
-      find-cases L w (omega arith) p (λ g ss. (finding g buffers .number ≡ 0) ↔ (T (not (spoilt ss)) × (1 ≤ tally (keyed p) (lastOf (g .read)))))
+      find-cases L w four p (λ g ss. (finding g buffers .number ≡ 0) ↔ (T (not (spoilt ss)) × (1 ≤ tally (keyed p) (lastOf (g .read)))))
       (λ z. absurd (omega arith), λ q. absurd (let z : 1 ≤ 0 = q .1 in omega arith)) go
     where
       go : (read : List ℕ) (e : End) (ss : List Stop) → EndsAt (λ i. recsIn (view L w i)) p read (spoilt ss) e → read ≡ upToBad L w ss
@@ -449,7 +450,7 @@ module _ (w : List ℕ) (p : Key) (buffers : Buffers) where
   pub find-located : finding (findWalk L w p) buffers .number ≡ 0
       → finding (findWalk L w p) buffers .values ≡ map (λ r. r .loc) (take 1 (only (keyed p) (lastOf (findWalk L w p .read)))) ++ (length (findWalk L w p .read) ∷ [])
   find-located =
-      find-cases L w (omega arith) p
+      find-cases L w four p
       (λ g ss. finding g buffers .number ≡ 0 → finding g buffers .values ≡ map (λ r. r .loc) (take 1 (only (keyed p) (lastOf (g .read)))) ++ (length (g .read) ∷ []))
       (λ z. absurd (omega arith)) go
     where
@@ -480,16 +481,16 @@ listing-told t w answer rs n e f l =
 
 module _ (w : List ℕ) (pages : 1 ≤ pagesIn L w) (v : Box) (answer : List ℕ) where
   pub list-six : (listing (listWalk L w v) w answer .number ≡ 6) ↔ T (listStops L w v)
-  list-six = listing-six (listWalk L w v) w answer (listStops L w v) (list-bound L w (omega arith) pages v .stops)
+  list-six = listing-six (listWalk L w v) w answer (listStops L w v) (list-bound L w four pages v .stops)
 
   pub list-done : (listing (listWalk L w v) w answer .number ≡ 0) ↔ T (not (listStops L w v))
-  list-done = listing-done (listWalk L w v) w answer (listStops L w v) (list-bound L w (omega arith) pages v .stops)
+  list-done = listing-done (listWalk L w v) w answer (listStops L w v) (list-bound L w four pages v .stops)
 
   pub list-told : listing (listWalk L w v) w answer .number ≡ 0
       → (listing (listWalk L w v) w answer .values ≡ length (listRecords L w v) ∷ length (listTrail L w v) ∷ [])
       × (listing (listWalk L w v) w answer .after .answer ≡ slotted answer (map (λ r. r .loc) (listRecords L w v)))
   list-told z =
-      let b = list-bound L w (omega arith) pages v in
+      let b = list-bound L w four pages v in
       let e : listWalk L w v .bad ≡ false = b .stops ∙ is-false (listStops L w v) (list-done .0 z) in
       let f = b .finds e in
       listing-told (listWalk L w v) w answer (listRecords L w v) (length (listTrail L w v)) e (f .0) (f .1)

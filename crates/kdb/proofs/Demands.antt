@@ -28,7 +28,7 @@ use Rattle.kdb.proofs.Views.{finite-whole}
 use Rattle.kdb.proofs.Print.{read-state}
 use Rattle.kdb.proofs.Pool.{length-iff, print-sound, sound-iff, Sound-stands}
 use Rattle.kdb.proofs.Format.{formatted-printed, none-formed, formatted-is}
-use Rattle.kdb.proofs.Length.{big, roomy}
+use Rattle.kdb.proofs.Length.{big, four, roomy}
 use Rattle.kdb.proofs.Grow.{placed-formed, removed-formed, key-once, Placing, Placed}
 use Rattle.kdb.proofs.Reading.{Answers, find-rootless, find-answers, list-reads, list-once, list-count, find-reads}
 use Rattle.kdb.proofs.Windows.{good-meets, point-good, point-reads, point-path}
@@ -325,7 +325,7 @@ module _ (w : List ℕ) (s : Sound L w) where
 find-levelled : (w p : List ℕ) → T (begins w (find p)) → (outcome w (find p) .number ≡ 6 → ⊥) → length (walkOf w (find p)) ≡ levelsAt w
 find-levelled w p h n =
     ap length (walk-find w p h)
-    ∙ find-levels L w (omega (arith, big)) p (λ e. n (ap (λ o. o .number) (goes-on w (find p) h) ∙ go (findWalk L w p) e))
+    ∙ find-levels L w four p (λ e. n (ap (λ o. o .number) (goes-on w (find p) h) ∙ go (findWalk L w p) e))
   where
     go : (g : Search) → g .end ≡ bad → finding g (lent w (find p)) .number ≡ 6
     go g e = rw e
@@ -337,10 +337,10 @@ long-one w t = omega (arith, length-iff L w .0 t)
 list-goes : (w v slots : List ℕ) → T (begins w (list v slots)) → walkOf w (list v slots) ≡ take (pagesIn L w - 1) (upToBad L w (listTrail L w (windowOf (domains w) v)))
 list-goes w v slots h =
     walk-list w v slots h
-    ∙ list-bound L w (omega (arith, big)) (long-one w (and-l (goodLength L w) _ h)) (windowOf (domains w) v) .reads
+    ∙ list-bound L w four (long-one w (and-l (goodLength L w) _ h)) (windowOf (domains w) v) .reads
 
 find-goes : (w p : List ℕ) → T (begins w (find p)) → walkOf w (find p) ≡ upToBad L w (findTrail L w p)
-find-goes w p h = walk-find w p h ∙ find-trail L w (omega (arith, big)) p
+find-goes w p h = walk-find w p h ∙ find-trail L w four p
 
 pub bounded : (w : List ℕ) → Bounded w
 bounded w =

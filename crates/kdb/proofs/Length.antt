@@ -1,4 +1,4 @@
--- The words of a page: what they are enough for. No other law looks at their number.
+-- The words of a page are enough for the header, and a page for a point or two regions. The laws over any length ask no more of theirs.
 use Prim.Native.Nat.{ℕ, zero, suc, _≤_}
 use native.Mathlib.Omega.{arith}
 use lib.Dec.{lit≤}
@@ -7,6 +7,9 @@ use Rattle.kdb.proofs.Grow.{Roomy}
 
 pub big : 5 ≤ L
 big = lit≤ tt
+
+pub four : 4 ≤ L
+four = lit≤ tt
 
 pub roomy : (k : ℕ) → 1 ≤ k → k ≤ 4 → Roomy L k
 roomy zero h i = absurd (omega arith)

@@ -16,7 +16,7 @@ use Rattle.kdb.specs.Pool.{domains, rootAt, levelsAt, pagesIn, view, goo
 use Rattle.kdb.specs.Walk.{Spot, spots, Tour, still, astray, badAt, readAt, follow, through, goodPoints, goodRegions, tour, bounded, listWalk, End, rootless, bad, absent, here, Search, ends, after, spotOf, into, seek, findWalk}
 use Rattle.kdb.specs.Calls.{L, Call, format, check, place, remove, find, list, Buffers, Outcome, Test, _or_, unless, judge, tests, core, finding, listing, lent, finite, ordered, outcome, windowOf, begins, walkOf}
 use Rattle.kdb.specs.Demands.{Agree, Told, walks, Local}
-use Rattle.kdb.proofs.Length.{big}
+use Rattle.kdb.proofs.Length.{four}
 use Rattle.kdb.proofs.Lists.{and-i, bool, cases, is-true, self, tally-front, take-past, take-less, many-append}
 
 -- the walks begin with the same m + 1 pages and, if the first reads no more than m, are the same
@@ -265,7 +265,7 @@ module _ (w w′ : List ℕ) where
 
   module _ (read : List ℕ) (a : Agree L w w′ read) where
     word : (i : ℕ) → i < 4 → getD w′ i 0 ≡ getD w i 0
-    word = agree-word L (omega (arith, big)) w w′ read a
+    word = agree-word L four w w′ read a
 
     long-same : goodLength L w′ ≡ goodLength L w
     long-same = same-length L w w′ (a .long)
@@ -295,13 +295,13 @@ module _ (w w′ : List ℕ) where
   begins-same c t a = ap (every (λ t. t .holds)) (tests-same c t a)
 
   found-same : (p : Key) → T (begins w (find p)) → Agree L w w′ (walkOf w (find p)) → findWalk L w′ p ≡ findWalk L w p
-  found-same p t a = find-same L (omega (arith, big)) w w′ p (begun (begins w (find p)) _ t a)
+  found-same p t a = find-same L four w w′ p (begun (begins w (find p)) _ t a)
 
   listed-same : (v answer : List ℕ) → T (begins w (list v answer)) → Agree L w w′ (walkOf w (list v answer))
       → listWalk L w′ (windowOf (domains w′) v) ≡ listWalk L w (windowOf (domains w) v)
   listed-same v answer t a =
       ap (λ k. listWalk L w′ (windowOf k v)) (domains-same (walkOf w (list v answer)) a)
-      ∙ list-same L (omega (arith, big)) w w′ (windowOf (domains w) v) (begun (begins w (list v answer)) _ t a)
+      ∙ list-same L four w w′ (windowOf (domains w) v) (begun (begins w (list v answer)) _ t a)
 
   -- the walk depends on length, header and the pages of the walk alone
   pub walk-local : (c : Call) → Agree L w w′ (walkOf w c) → walkOf w′ c ≡ walkOf w c
