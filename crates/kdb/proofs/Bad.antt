@@ -22,7 +22,7 @@ use Rattle.kdb.specs.Demands.{keyed, slotted}
 use Rattle.kdb.proofs.Length.{four}
 use Rattle.kdb.proofs.Lists.{cases, and-l, is-true, is-false, some-many, length-only, gather-append}
 use Rattle.kdb.proofs.Pages.{word-at}
-use Rattle.kdb.proofs.Walk.{at-page}
+use Rattle.kdb.proofs.Walk.{seek-all, find-all}
 use Rattle.kdb.proofs.Answers.{map-loc}
 use Rattle.kdb.proofs.Words.{kind, count, good-points, good-regions}
 
@@ -245,13 +245,6 @@ module _ (L : ℕ) (w : List ℕ) where
       go (absent i) a = (a .0, λ d. a .1 j, a .2)
       go (here x) a = (a .0, λ d. a .1 j, a .2)
 
-into-levels : (below : ℕ → Search) (p : Key) (m : ℕ) → ((c : ℕ) → (below c .end ≡ bad → ⊥) → length (below c .read) ≡ m) → (es : List Ent)
-    → (into below p es .end ≡ bad → ⊥) → length (into below p es .read) ≡ m
-into-levels below p m h [] n = absurd (n refl)
-into-levels below p m h (e ∷ es) n =
-    cases (λ b. (cond b (below (e .child)) (into below p es) .end ≡ bad → ⊥) → length (cond b (below (e .child)) (into below p es) .read) ≡ m) (within (e .box) p)
-    (λ _. h (e .child)) (λ _. into-levels below p m h es) n
-
 module _ (L : ℕ) (w : List ℕ) (room : 4 ≤ L) where
   bad-points : (j : ℕ) → badPage L w zero j ≡ not (isPage L w j && goodPoints L w j)
   bad-points j =
@@ -368,18 +361,12 @@ module _ (L : ℕ) (w : List ℕ) (room : 4 ≤ L) where
       (λ e. record { ended = tt; reads = read-bad L w j e }) (λ e. record { ended = tt; reads = read-none L w j e })
 
   -- a find that meets no bad page reads one page of each level
-  seek-levels : (p : Key) (n j : ℕ) → (seek L w p n j .end ≡ bad → ⊥) → length (seek L w p n j .read) ≡ n + 1
-  seek-levels p zero j =
-      at-page (λ (g : Search). (g .end ≡ bad → ⊥) → length (g .read) ≡ 0 + 1) (isPage L w j) (goodPoints L w j) _ _ _ (λ _ h. refl) (λ _ h. absurd (h refl)) (λ h. absurd (h refl))
-  seek-levels p (suc n) j =
-      at-page (λ (g : Search). (g .end ≡ bad → ⊥) → length (g .read) ≡ suc n + 1) (isPage L w j) (goodRegions L w j) _ _ _
-      (λ _ h. omega (arith, into-levels (seek L w p n) p (n + 1) (seek-levels p n) (entsIn (view L w j)) h)) (λ _ h. absurd (h refl)) (λ h. absurd (h refl))
-
   pub find-levels : (p : Key) → (findWalk L w p .end ≡ bad → ⊥) → length (findWalk L w p .read) ≡ levelsAt w
   find-levels p =
-      cases (λ z. (cond z (ends [] rootless) (seek L w p (levelsAt w - 1) (rootAt w)) .end ≡ bad → ⊥)
-      → length (cond z (ends [] rootless) (seek L w p (levelsAt w - 1) (rootAt w)) .read) ≡ levelsAt w) (eqb (levelsAt w) 0)
-      (λ t _. sym (eqb→eq (levelsAt w) 0 t)) (λ t h. omega (arith, some-many (levelsAt w) t, seek-levels p (levelsAt w - 1) (rootAt w) h))
+      let i = seek-all L w p (λ n s. (s .end ≡ bad → ⊥) → length (s .read) ≡ n + 1)
+      (record { lost = λ n b. absurd (b refl); spoilt = λ n j y b. absurd (b refl); last = λ j y b. refl; down = λ n j s y h b. omega (arith, h b) })
+      (levelsAt w - 1) (rootAt w) in
+      find-all L w p (λ s. (s .end ≡ bad → ⊥) → length (s .read) ≡ levelsAt w) (λ e _. sym e) (λ l b. omega (arith, i b))
 
   -- a property of a find with no root, and of one whose walk ended as it must, holds of every find
   find-cases : (p : Key) (C : Search → List Stop → Type 0) → C (ends [] rootless) []
