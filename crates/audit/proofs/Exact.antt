@@ -18,6 +18,7 @@ use Rattle.kdb.specs.Shape.{differ, Shaped, ShapedF}
 use Rattle.kdb.specs.Pool.{domains, rootAt, levelsAt, countAt, pagesIn, goodLength, goodHeader, view, reachedFrom, reached, Paths, Sound}
 use Rattle.kdb.specs.Print.{forest, treeAt, sound}
 use Rattle.kdb.specs.Calls as Calls
+use Rattle.kdb.proofs.Length.{big}
 use Rattle.words.specs.Words.{Paged}
 use Rattle.words.proofs.Laws.{pages}
 use Rattle.kdb.proofs.Lists.{and-l, and-r, and-i, bool, is-true, is-false, of-true, of-bit, no-bit, bool-eq, many-append, each-map, each-every, every-each, zeros-pad, pad-zeros, every-up, up-every, sum-once}
@@ -358,7 +359,7 @@ audit-is L big w long head =
 pub audit-says : (w : List ℕ) (n : ℕ) → Paged w n → goodHeader Calls.L w ≡ true → audited Calls.L w ≡ sound Calls.L w
 audit-says w n g e =
     let p = pages w n g in
-    audit-is Calls.L (omega arith) w (length-iff Calls.L w .1 (record { long = omega (arith, g .words, p); least = omega (arith, g .least, p); most = omega (arith, g .most, p) }))
+    audit-is Calls.L big w (length-iff Calls.L w .1 (record { long = omega (arith, g .words, p); least = omega (arith, g .least, p); most = omega (arith, g .most, p) }))
     (of-true (goodHeader Calls.L w) e)
 
 pub header-domains : (w : List ℕ) → goodHeader Calls.L w ≡ true → (1 ≤ domains w) × (domains w ≤ 4)

@@ -1,21 +1,16 @@
 // Tests of regions, windows and keys on the words of a pool, each a loop over the domains.
+use words::larger;
 use words::lower_end;
 use words::point_at;
 use words::read;
 use words::upper_end;
 ghost use mathlib.Core.Path.{_≡_};
-ghost use Prim.Native.Nat.{_+_, _*_, _≤_, _<_, max};
+ghost use Prim.Native.Nat.{_+_, _*_, _≤_, _<_};
 ghost use lib.ListN.{length};
 ghost use Rattle.kdb.specs.Lists.{same};
 ghost use Rattle.kdb.specs.Box.{within, inWindow, meets};
 ghost use Rattle.kdb.specs.Calls.{windowOf, ordered};
 ghost use Rattle.words.specs.Words.{regionAt, keysOf, RegionIn, RecordIn};
-
-fn larger(a: usize, b: usize) -> usize
-    ensures { λ r. ⌜ r ≡ max a b ⌝ }
-{
-    if a < b { b } else { a }
-}
 
 // The region at word `at` holds the point: lower ≤ key < upper in each domain.
 pub fn point_in(pool: &[u32], k: usize, at: usize, point: &[u32]) -> bool

@@ -1,9 +1,9 @@
 // A line of bytes to its answer, and a stream of bytes to its output.
 use replies::Said;
-use replies::at_most;
 use replies::frame;
 use replies::no_frame;
 use text::decode;
+use words::smaller;
 ghost use mathlib.Core.Path.{_≡_};
 ghost use Prim.Native.Nat.{_+_, min};
 ghost use lib.ListN.{length, set, take};
@@ -195,7 +195,7 @@ pub fn answer(
         (now (pool .entry)) (now (out .entry)) 0 (now (pool .exit)) (now (out .exit)) (r .words) (r .at)
         × (now (work .exit) ≡ workAfter (take words (now (pool .entry))) (now (work .entry)) (parse (now (line .entry)))) ⌝ }
 {
-    let within = at_most(words, 16384);
+    let within = smaller(words, 16384);
     line_answer(line, pool, within, work, out, 0)
 }
 
@@ -212,7 +212,7 @@ pub fn feed(
         (storeOf (r .words) (r .digits) (now (line .exit)) (now (pool .exit)) (now (work .exit))) (now (out .exit)) (r .taken) (r .written) ⌝ }
 {
     let within = Held {
-        words: at_most(from.words, 16384),
+        words: smaller(from.words, 16384),
         digits: from.digits,
     };
     feed_all(piece, within, line, pool, work, out)
@@ -230,6 +230,6 @@ pub fn finish(
         (now (pool .entry)) (now (out .entry)) 0 (now (pool .exit)) (now (out .exit)) (r .words) (r .at)
         × (now (work .exit) ≡ workAfter (take (from .words) (now (pool .entry))) (now (work .entry)) (asked (counted 128 (from .digits) (now (line .entry))))) ⌝ }
 {
-    let within = at_most(from.words, 16384);
+    let within = smaller(from.words, 16384);
     close(line, from.digits, pool, within, work, out, 0)
 }

@@ -18,6 +18,7 @@ use Rattle.kdb.specs.Demands.{SameRecords, keyed, inside, goodWindow, go
 use Rattle.kdb.proofs.Lists.{In, and-l, and-r, and-i, bool, bit-most, length-only, same-refl}
 use Rattle.kdb.proofs.Stands.{Stands}
 use Rattle.kdb.proofs.Views.{finite-whole}
+use Rattle.kdb.proofs.Length.{big}
 use Rattle.kdb.proofs.Pool.{Sound-stands}
 use Rattle.kdb.proofs.Reading.{Answers, list-good, list-finds, find-rootless, find-answers}
 use Rattle.kdb.proofs.Calls.{goes-on}
@@ -62,7 +63,7 @@ module _ (w : List ℕ) (sound : Sound L w) (rs : List Rec) (same : SameRecords 
   pub list-answers : (v slots : List ℕ) → T (goodWindow (domains w) v) → ListsExactly w rs v slots (outcome w (list v slots))
   list-answers v slots h =
       let window = windowOf (domains w) v in
-      let st = Sound-stands L w sound (omega arith) in
+      let st = Sound-stands L w sound big in
       let t = listWalk L w window in
       let e = goes-on w (list v slots) (list-begins w sound v slots h) in
       let g = listing-good t w slots (list-good L w window (stateOf L w) st) in
@@ -149,7 +150,7 @@ module _ (w : List ℕ) (sound : Sound L w) (rs : List Rec) (same-recs : SameRec
       let k = domains w in
       let long = eqb (length p) k in
       let i : T (within (whole k) p) = finite-whole k p (eqb→eq (length p) k (and-l long _ h)) (and-r long _ h) in
-      go (stateOf L w) (Sound-stands L w sound (omega arith)) same-recs i (goes-on w (find p) (find-begins w sound p h))
+      go (stateOf L w) (Sound-stands L w sound big) same-recs i (goes-on w (find p) (find-begins w sound p h))
     where
       go : (s : State) → Stands L w s → SameRecords (recordsOf s) rs → T (within (whole (domains w)) p)
           → outcome w (find p) ≡ finding (findWalk L w p) (lent w (find p)) → FindsExactly rs p (outcome w (find p))

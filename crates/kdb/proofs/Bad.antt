@@ -19,9 +19,10 @@ use Rattle.kdb.specs.Walk.{Spot, Tour, still, follow, through, goodPoint
 use Rattle.kdb.specs.Bad.{Stop, spoilt, kindAt, sizeAt, badPage, badFor, trail, findTrail, listTrail, upToBad, findStops, listStops, listRecords}
 use Rattle.kdb.specs.Calls.{L, Buffers, finding, listing}
 use Rattle.kdb.specs.Demands.{keyed, slotted}
+use Rattle.kdb.proofs.Length.{four}
 use Rattle.kdb.proofs.Lists.{cases, and-l, is-true, is-false, some-many, length-only, gather-append}
 use Rattle.kdb.proofs.Pages.{word-at}
-use Rattle.kdb.proofs.Walk.{at-page}
+use Rattle.kdb.proofs.Walk.{seek-all, find-all}
 use Rattle.kdb.proofs.Answers.{map-loc}
 use Rattle.kdb.proofs.Words.{kind, count, good-points, good-regions}
 
@@ -244,13 +245,6 @@ module _ (L : ℕ) (w : List ℕ) where
       go (absent i) a = (a .0, λ d. a .1 j, a .2)
       go (here x) a = (a .0, λ d. a .1 j, a .2)
 
-into-levels : (below : ℕ → Search) (p : Key) (m : ℕ) → ((c : ℕ) → (below c .end ≡ bad → ⊥) → length (below c .read) ≡ m) → (es : List Ent)
-    → (into below p es .end ≡ bad → ⊥) → length (into below p es .read) ≡ m
-into-levels below p m h [] n = absurd (n refl)
-into-levels below p m h (e ∷ es) n =
-    cases (λ b. (cond b (below (e .child)) (into below p es) .end ≡ bad → ⊥) → length (cond b (below (e .child)) (into below p es) .read) ≡ m) (within (e .box) p)
-    (λ _. h (e .child)) (λ _. into-levels below p m h es) n
-
 module _ (L : ℕ) (w : List ℕ) (room : 4 ≤ L) where
   bad-points : (j : ℕ) → badPage L w zero j ≡ not (isPage L w j && goodPoints L w j)
   bad-points j =
@@ -367,18 +361,12 @@ module _ (L : ℕ) (w : List ℕ) (room : 4 ≤ L) where
       (λ e. record { ended = tt; reads = read-bad L w j e }) (λ e. record { ended = tt; reads = read-none L w j e })
 
   -- a find that meets no bad page reads one page of each level
-  seek-levels : (p : Key) (n j : ℕ) → (seek L w p n j .end ≡ bad → ⊥) → length (seek L w p n j .read) ≡ n + 1
-  seek-levels p zero j =
-      at-page (λ (g : Search). (g .end ≡ bad → ⊥) → length (g .read) ≡ 0 + 1) (isPage L w j) (goodPoints L w j) _ _ _ (λ _ h. refl) (λ _ h. absurd (h refl)) (λ h. absurd (h refl))
-  seek-levels p (suc n) j =
-      at-page (λ (g : Search). (g .end ≡ bad → ⊥) → length (g .read) ≡ suc n + 1) (isPage L w j) (goodRegions L w j) _ _ _
-      (λ _ h. omega (arith, into-levels (seek L w p n) p (n + 1) (seek-levels p n) (entsIn (view L w j)) h)) (λ _ h. absurd (h refl)) (λ h. absurd (h refl))
-
   pub find-levels : (p : Key) → (findWalk L w p .end ≡ bad → ⊥) → length (findWalk L w p .read) ≡ levelsAt w
   find-levels p =
-      cases (λ z. (cond z (ends [] rootless) (seek L w p (levelsAt w - 1) (rootAt w)) .end ≡ bad → ⊥)
-      → length (cond z (ends [] rootless) (seek L w p (levelsAt w - 1) (rootAt w)) .read) ≡ levelsAt w) (eqb (levelsAt w) 0)
-      (λ t _. sym (eqb→eq (levelsAt w) 0 t)) (λ t h. omega (arith, some-many (levelsAt w) t, seek-levels p (levelsAt w - 1) (rootAt w) h))
+      let i = seek-all L w p (λ n s. (s .end ≡ bad → ⊥) → length (s .read) ≡ n + 1)
+      (record { lost = λ n b. absurd (b refl); spoilt = λ n j y b. absurd (b refl); last = λ j y b. refl; down = λ n j s y h b. omega (arith, h b) })
+      (levelsAt w - 1) (rootAt w) in
+      find-all L w p (λ s. (s .end ≡ bad → ⊥) → length (s .read) ≡ levelsAt w) (λ e _. sym e) (λ l b. omega (arith, i b))
 
   -- a property of a find with no root, and of one whose walk ended as it must, holds of every find
   find-cases : (p : Key) (C : Search → List Stop → Type 0) → C (ends [] rootless) []
@@ -409,7 +397,7 @@ module _ (w : List ℕ) (p : Key) (buffers : Buffers) where
   lastOf read = recsIn (view L w (lastOr 0 read))
 
   pub find-six : (finding (findWalk L w p) buffers .number ≡ 6) ↔ T (findStops L w p)
-  find-six = find-cases L w (omega arith) p (λ g ss. (finding g buffers .number ≡ 6) ↔ T (spoilt ss)) (λ z. absurd (omega arith), λ t. absurd t) go
+  find-six = find-cases L w four p (λ g ss. (finding g buffers .number ≡ 6) ↔ T (spoilt ss)) (λ z. absurd (omega arith), λ t. absurd t) go
     where
       go : (read : List ℕ) (e : End) (ss : List Stop) → EndsAt (λ i. recsIn (view L w i)) p read (spoilt ss) e → read ≡ upToBad L w ss → (finding (ends read e) buffers .number ≡ 6) ↔ T (spoilt ss)
       go read rootless ss a r = absurd a
@@ -419,7 +407,7 @@ module _ (w : List ℕ) (p : Key) (buffers : Buffers) where
 
   pub find-eight : (finding (findWalk L w p) buffers .number ≡ 8) ↔ (T (not (findStops L w p)) × (tally (keyed p) (lastOf (findWalk L w p .read)) ≡ 0))
   find-eight =
-      find-cases L w (omega arith) p (λ g ss. (finding g buffers .number ≡ 8) ↔ (T (not (spoilt ss)) × (tally (keyed p) (lastOf (g .read)) ≡ 0))) (λ z. (tt, refl), λ q. refl) go
+      find-cases L w four p (λ g ss. (finding g buffers .number ≡ 8) ↔ (T (not (spoilt ss)) × (tally (keyed p) (lastOf (g .read)) ≡ 0))) (λ z. (tt, refl), λ q. refl) go
     where
       go : (read : List ℕ) (e : End) (ss : List Stop) → EndsAt (λ i. recsIn (view L w i)) p read (spoilt ss) e → read ≡ upToBad L w ss
           → (finding (ends read e) buffers .number ≡ 8) ↔ (T (not (spoilt ss)) × (tally (keyed p) (lastOf read) ≡ 0))
@@ -433,7 +421,7 @@ module _ (w : List ℕ) (p : Key) (buffers : Buffers) where
 
   pub find-done : (finding (findWalk L w p) buffers .number ≡ 0) ↔ (T (not (findStops L w p)) × (1 ≤ tally (keyed p) (lastOf (findWalk L w p .read))))
   find-done =
-      find-cases L w (omega arith) p (λ g ss. (finding g buffers .number ≡ 0) ↔ (T (not (spoilt ss)) × (1 ≤ tally (keyed p) (lastOf (g .read)))))
+      find-cases L w four p (λ g ss. (finding g buffers .number ≡ 0) ↔ (T (not (spoilt ss)) × (1 ≤ tally (keyed p) (lastOf (g .read)))))
       (λ z. absurd (omega arith), λ q. absurd (let z : 1 ≤ 0 = q .1 in omega arith)) go
     where
       go : (read : List ℕ) (e : End) (ss : List Stop) → EndsAt (λ i. recsIn (view L w i)) p read (spoilt ss) e → read ≡ upToBad L w ss
@@ -449,7 +437,7 @@ module _ (w : List ℕ) (p : Key) (buffers : Buffers) where
   pub find-located : finding (findWalk L w p) buffers .number ≡ 0
       → finding (findWalk L w p) buffers .values ≡ map (λ r. r .loc) (take 1 (only (keyed p) (lastOf (findWalk L w p .read)))) ++ (length (findWalk L w p .read) ∷ [])
   find-located =
-      find-cases L w (omega arith) p
+      find-cases L w four p
       (λ g ss. finding g buffers .number ≡ 0 → finding g buffers .values ≡ map (λ r. r .loc) (take 1 (only (keyed p) (lastOf (g .read)))) ++ (length (g .read) ∷ []))
       (λ z. absurd (omega arith)) go
     where
@@ -480,16 +468,16 @@ listing-told t w answer rs n e f l =
 
 module _ (w : List ℕ) (pages : 1 ≤ pagesIn L w) (v : Box) (answer : List ℕ) where
   pub list-six : (listing (listWalk L w v) w answer .number ≡ 6) ↔ T (listStops L w v)
-  list-six = listing-six (listWalk L w v) w answer (listStops L w v) (list-bound L w (omega arith) pages v .stops)
+  list-six = listing-six (listWalk L w v) w answer (listStops L w v) (list-bound L w four pages v .stops)
 
   pub list-done : (listing (listWalk L w v) w answer .number ≡ 0) ↔ T (not (listStops L w v))
-  list-done = listing-done (listWalk L w v) w answer (listStops L w v) (list-bound L w (omega arith) pages v .stops)
+  list-done = listing-done (listWalk L w v) w answer (listStops L w v) (list-bound L w four pages v .stops)
 
   pub list-told : listing (listWalk L w v) w answer .number ≡ 0
       → (listing (listWalk L w v) w answer .values ≡ length (listRecords L w v) ∷ length (listTrail L w v) ∷ [])
       × (listing (listWalk L w v) w answer .after .answer ≡ slotted answer (map (λ r. r .loc) (listRecords L w v)))
   list-told z =
-      let b = list-bound L w (omega arith) pages v in
+      let b = list-bound L w four pages v in
       let e : listWalk L w v .bad ≡ false = b .stops ∙ is-false (listStops L w v) (list-done .0 z) in
       let f = b .finds e in
       listing-told (listWalk L w v) w answer (listRecords L w v) (length (listTrail L w v)) e (f .0) (f .1)

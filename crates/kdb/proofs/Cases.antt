@@ -7,7 +7,7 @@ use lib.ListN.{replicate}
 use Rattle.kdb.specs.Pages.{regionsPer, pointsPer}
 use Rattle.kdb.specs.Pool.{goodLength, goodHeader}
 use Rattle.kdb.specs.Print.{sound}
-use Rattle.kdb.specs.Calls.{Call, format, check, place, remove, find, list, outcome}
+use Rattle.kdb.specs.Calls.{L, Call, format, check, place, remove, find, list, outcome}
 use Rattle.kdb.proofs.Rows.{Row, passAll, tells, turns, leaves, lists, junk, pool-of, done, top, inf}
 
 -- n placings with the keys a, a + 10, .. of K 1, each with its key as location
@@ -158,5 +158,5 @@ unfolding outcome goodLength goodHeader sound
 starred = refl
 
 -- document 01's table of R and P is the rule that the definitions use
-pub capacities : (map (regionsPer 32) (1 ∷ 2 ∷ 3 ∷ 4 ∷ []) ≡ 9 ∷ 5 ∷ 4 ∷ 3 ∷ []) × (map (pointsPer 32) (1 ∷ 2 ∷ 3 ∷ 4 ∷ []) ≡ 14 ∷ 9 ∷ 7 ∷ 5 ∷ [])
+pub capacities : (map (regionsPer L) (1 ∷ 2 ∷ 3 ∷ 4 ∷ []) ≡ 9 ∷ 5 ∷ 4 ∷ 3 ∷ []) × (map (pointsPer L) (1 ∷ 2 ∷ 3 ∷ 4 ∷ []) ≡ 14 ∷ 9 ∷ 7 ∷ 5 ∷ [])
 capacities = (refl, refl)

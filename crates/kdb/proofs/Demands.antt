@@ -22,12 +22,13 @@ use Rattle.kdb.proofs.Lists.{and-l, and-r}
 use Rattle.kdb.proofs.Stands.{Stands}
 use Rattle.kdb.proofs.Views.{finite-whole}
 use Rattle.kdb.proofs.Pool.{length-iff, Sound-stands}
+use Rattle.kdb.proofs.Length.{big, four}
 use Rattle.kdb.proofs.Grow.{key-once}
 use Rattle.kdb.proofs.Reading.{list-reads, list-once, list-count, find-reads}
 use Rattle.kdb.proofs.Windows.{good-meets, point-good, point-reads, point-path}
 use Rattle.kdb.proofs.Bad.{find-levels, find-trail, list-bound}
 use Rattle.kdb.proofs.Calls.{done, goes-on}
-use Rattle.kdb.proofs.Effects.{big, moves, emptied-after, does-after}
+use Rattle.kdb.proofs.Effects.{moves, emptied-after, does-after}
 use Rattle.kdb.proofs.Lawful.{refusal-keeps, done-does, walk-bound}
 use Rattle.kdb.proofs.History.{changed-same}
 use Rattle.kdb.proofs.Answers.{list-begins, find-begins, list-answers, find-finds}
@@ -138,7 +139,7 @@ module _ (w : List ℕ) (s : Sound L w) where
 find-levelled : (w p : List ℕ) → T (begins w (find p)) → (outcome w (find p) .number ≡ 6 → ⊥) → length (walkOf w (find p)) ≡ levelsAt w
 find-levelled w p h n =
     ap length (walk-find w p h)
-    ∙ find-levels L w (omega arith) p (λ e. n (ap (λ o. o .number) (goes-on w (find p) h) ∙ go (findWalk L w p) e))
+    ∙ find-levels L w four p (λ e. n (ap (λ o. o .number) (goes-on w (find p) h) ∙ go (findWalk L w p) e))
   where
     go : (g : Search) → g .end ≡ bad → finding g (lent w (find p)) .number ≡ 6
     go g e = rw e
@@ -150,10 +151,10 @@ long-one w t = omega (arith, length-iff L w .0 t)
 list-goes : (w v slots : List ℕ) → T (begins w (list v slots)) → walkOf w (list v slots) ≡ take (pagesIn L w - 1) (upToBad L w (listTrail L w (windowOf (domains w) v)))
 list-goes w v slots h =
     walk-list w v slots h
-    ∙ list-bound L w (omega arith) (long-one w (and-l (goodLength L w) _ h)) (windowOf (domains w) v) .reads
+    ∙ list-bound L w four (long-one w (and-l (goodLength L w) _ h)) (windowOf (domains w) v) .reads
 
 find-goes : (w p : List ℕ) → T (begins w (find p)) → walkOf w (find p) ≡ upToBad L w (findTrail L w p)
-find-goes w p h = walk-find w p h ∙ find-trail L w (omega arith) p
+find-goes w p h = walk-find w p h ∙ find-trail L w four p
 
 pub bounded : (w : List ℕ) → Bounded w
 bounded w =

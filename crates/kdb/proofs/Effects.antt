@@ -25,12 +25,10 @@ use Rattle.kdb.proofs.Views.{finite-whole}
 use Rattle.kdb.proofs.Print.{read-state, print-length, print-word}
 use Rattle.kdb.proofs.Pool.{length-iff, header-iff, print-sound, sound-iff, Sound-stands}
 use Rattle.kdb.proofs.Format.{formatted-printed, none-formed, formatted-is}
-use Rattle.kdb.proofs.Grow.{roomy-32, placed-formed, removed-formed, key-once, Placing, Placed}
+use Rattle.kdb.proofs.Grow.{placed-formed, removed-formed, key-once, Placing, Placed}
+use Rattle.kdb.proofs.Length.{big, roomy}
 use Rattle.kdb.proofs.Reading.{Answers, find-rootless, find-answers}
 use Rattle.kdb.proofs.History.{without-tally}
-
-pub big : 5 ≤ L
-big = omega arith
 
 -- a printed state is sound
 printed-sound : (k N : ℕ) (s : State) → WellFormed L k N s → Sound L (printed L k N s)
@@ -83,7 +81,7 @@ pub place-placing : (w work p : List ℕ) (l : ℕ) → T (begins w (place work 
 place-placing w work p l h =
     let c = place-passed w work p l h in
     let f = Sound-stands L w (c .0 .well) big .formed in
-    record { roomy = roomy-32 (domains w) (f .domains .0) (f .domains .1); formed = f; inside = passed-within w p (c .0); new = not-there w p (c .0) (c .1) }
+    record { roomy = roomy (domains w) (f .domains .0) (f .domains .1); formed = f; inside = passed-within w p (c .0); new = not-there w p (c .0) (c .1) }
 
 -- a record is placed in pool w, which becomes v: the step's state, well-formed and with one record more
 pub record Adds (w : List ℕ) (q : Rec) (v : List ℕ) : Type 0 where

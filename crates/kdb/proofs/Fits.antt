@@ -1,22 +1,23 @@
 -- What a call returns fits a word: on words below 2 ^ 32 every value is below 2 ^ 32. A location is a word of the pool, and the pages
 -- read and the records found are few.
 use mathlib.Core.Bool.{Bool, true, false, cond}
-use mathlib.Core.List.{List, [], _∷_, _++_}
+use mathlib.Core.List.{List, [], _∷_}
+use mathlib.Core.Option.{none}
 use mathlib.Core.Path.{_≡_, refl, ap}
 use Prim.Native.Nat.{ℕ, zero, suc, _+_, _-_, _*_, _^_, _<_, _≤_}
 use native.Mathlib.Nat.{div-le-self}
 use native.Mathlib.Omega.{arith}
-use lib.Dec.{ltb, eqb, leb→le}
-use lib.ListN.{length, take, drop, getD, length-append}
-use Rattle.kdb.specs.Lists.{Each, only, same}
-use Rattle.kdb.specs.Box.{Box, Key, within, inWindow, meets}
+use lib.Dec.{T, eqb, leb→le}
+use lib.ListN.{length, drop, getD, length-append}
+use Rattle.kdb.specs.Lists.{Each, only}
+use Rattle.kdb.specs.Box.{Box, Key, inWindow}
 use Rattle.kdb.specs.Tree.{Rec}
-use Rattle.kdb.specs.Pages.{Ent, blank, points, regions, pointsPer, isPoints, recsIn, entsIn, readRecs, readEnts, readPage, page}
-use Rattle.kdb.specs.Pool.{domains, rootAt, levelsAt, pagesIn, view, isPage}
-use Rattle.kdb.specs.Walk.{Spot, spots, Tour, still, astray, badAt, readAt, follow, through, goodPoints, goodRegions, tour, bounded, listWalk, End, rootless, bad, absent, here, Search, ends, into, spotOf, seek, findWalk}
+use Rattle.kdb.specs.Pages.{blank, points, regions, pointsPer, isPoints, recsIn, readRecs, readEnts, readPage, page}
+use Rattle.kdb.specs.Pool.{domains, rootAt, levelsAt, view, isPage}
+use Rattle.kdb.specs.Walk.{Spot, spots, Tour, goodPoints, listWalk, End, findWalk}
 use Rattle.kdb.specs.Calls.{L}
 use Rattle.kdb.proofs.Lists.{cases, and-r, only-most, each-take, each-drop}
-use Rattle.kdb.proofs.Walk.{at-page}
+use Rattle.kdb.proofs.Walk.{tour-all, list-all, Ends, find-ends}
 
 abbrev pub Word : ℕ → Type 0
 Word x = x < 2 ^ 32
@@ -57,35 +58,11 @@ spots-sited j i (r ∷ rs) h = (h .0, spots-sited j (suc i) rs (h .1))
 
 -- where find ends, the location is a word
 abbrev pub SitedEnd : End → Type 0
-SitedEnd rootless = Unit {0}
-SitedEnd bad = Unit {0}
-SitedEnd (absent j) = Unit {0}
-SitedEnd (here s) = SitedSpot s
+SitedEnd e = Ends SitedSpot e
 
-spot-sited : (j : ℕ) (p : Key) (ss : List Spot) → Each SitedSpot ss → SitedEnd (spotOf j p ss)
-spot-sited j p [] h = tt
-spot-sited j p (s ∷ ss) h =
-    cases (λ b. SitedEnd (cond b (here s) (spotOf j p ss))) (same p (s .rec .key)) (λ _. h .0) (λ _. spot-sited j p ss (h .1))
-
-into-sited : (below : ℕ → Search) (p : Key) → ((c : ℕ) → SitedEnd (below c .end)) → (es : List Ent) → SitedEnd (into below p es .end)
-into-sited below p h [] = tt
-into-sited below p h (e ∷ es) =
-    cases (λ b. SitedEnd (cond b (below (e .child)) (into below p es) .end)) (within (e .box) p) (λ _. h (e .child)) (λ _. into-sited below p h es)
-
--- the records found are at most 28 for each page read
+-- the records found are at most as many for each page read as its words but four
 abbrev pub Few : Tour → Type 0
-Few t = length (t .found) ≤ 28 * length (t .read)
-
-follow-few : (a b : Tour) → Few a → Few b → Few (follow a b)
-follow-few a b s t =
-    cases (λ z. Few (cond z a (record { read = a .read ++ b .read; bad = b .bad; found = a .found ++ b .found }))) (a .bad)
-    (λ _. s) (λ _. simp length-append (omega arith))
-
-through-few : (below : ℕ → Tour) (v : Box) → ((c : ℕ) → Few (below c)) → (es : List Ent) → Few (through below v es)
-through-few below v h [] = omega arith
-through-few below v h (e ∷ es) =
-    follow-few (cond (meets (e .box) v) (below (e .child)) still) (through below v es)
-    (cases (λ b. Few (cond b (below (e .child)) still)) (meets (e .box) v) (λ _. h (e .child)) (λ _. omega arith)) (through-few below v h es)
+Few t = length (t .found) ≤ (L - 4) * length (t .read)
 
 length-spots : (j i : ℕ) (rs : List Rec) → length (spots j i rs) ≡ length rs
 length-spots j i [] = refl
@@ -97,35 +74,24 @@ module _ (w : List ℕ) where
       cases (λ b. Each Sited (recsIn (cond b (readPage (domains w) (page L w j)) blank))) (isPage L w j)
       (λ _. page-sited (domains w) (page L w j) (each-take Word L (drop (L * j) w) (each-drop Word (L * j) w h))) (λ _. tt)
 
-  seek-sited : (p : Key) → Each Word w → (n j : ℕ) → SitedEnd (seek L w p n j .end)
-  seek-sited p h zero j =
-      at-page (λ (s : Search). SitedEnd (s .end)) (isPage L w j) (goodPoints L w j) _ _ _
-      (λ _. spot-sited j p (spots j 0 (recsIn (view L w j))) (spots-sited j 0 (recsIn (view L w j)) (view-sited j h))) (λ _. tt) tt
-  seek-sited p h (suc n) j =
-      at-page (λ (s : Search). SitedEnd (s .end)) (isPage L w j) (goodRegions L w j) _ _ _
-      (λ _. into-sited (seek L w p n) p (seek-sited p h n) (entsIn (view L w j))) (λ _. tt) tt
-
   pub find-sited : (p : Key) → Each Word w → SitedEnd (findWalk L w p .end)
-  find-sited p h =
-      cases (λ b. SitedEnd (cond b (ends [] rootless) (seek L w p (levelsAt w - 1) (rootAt w)) .end)) (eqb (levelsAt w) 0)
-      (λ _. tt) (λ _. seek-sited p h (levelsAt w - 1) (rootAt w))
+  find-sited p h = find-ends L w p SitedSpot SitedSpot (λ x a _. a) (λ j. spots-sited j 0 (recsIn (view L w j)) (view-sited j h))
 
-  tour-few : (v : Box) (n j : ℕ) → Few (tour L w v n j)
-  tour-few v zero j =
+  page-few : (v : Box) (j : ℕ) → T (goodPoints L w j) → length (only (λ s. inWindow v (s .rec .key)) (spots j 0 (recsIn (view L w j)))) ≤ L - 4
+  page-few v j g =
       let rs = recsIn (view L w j) in
-      let found = only (λ s. inWindow v (s .rec .key)) (spots j 0 rs) in
-      cases (λ b. Few (cond b (cond (goodPoints L w j) (readAt j found) (badAt j)) astray)) (isPage L w j)
-      (λ _. cases (λ b. Few (cond b (readAt j found) (badAt j))) (goodPoints L w j)
-      (λ g. omega (arith, only-most (λ s. inWindow v (s .rec .key)) (spots j 0 rs), length-spots j 0 rs, leb→le (length rs) (pointsPer L (domains w)) (and-r (isPoints (view L w j)) _ g), div-le-self 28 (domains w + 1)))
-      (λ _. omega arith)) (λ _. omega arith)
-  tour-few v (suc n) j =
-      at-page Few (isPage L w j) (goodRegions L w j) _ _ _
-      (λ _. omega (arith, through-few (tour L w v n) v (tour-few v n) (entsIn (view L w j)))) (λ _. omega arith) (omega arith)
+      omega (arith, only-most (λ s. inWindow v (s .rec .key)) (spots j 0 rs), length-spots j 0 rs, leb→le (length rs) (pointsPer L (domains w)) (and-r (isPoints (view L w j)) _ g), div-le-self (L - 4) (domains w + 1))
 
   pub list-few : (v : Box) → Few (listWalk L w v)
   list-few v =
-      let N = pagesIn L w in
-      let t = tour L w v (levelsAt w - 1) (rootAt w) in
-      cases (λ b. Few (cond b still (bounded L w N t))) (eqb (levelsAt w) 0) (λ _. omega arith)
-      (λ _. cases (λ b. Few (cond b t (record { read = take (N - 1) (t .read); bad = true; found = [] }))) (ltb (length (t .read)) N)
-      (λ _. tour-few v (levelsAt w - 1) (rootAt w)) (λ _. omega arith))
+      let h = tour-all L w v Few
+      (record {
+        none = omega arith;
+        lost = omega arith;
+        spoilt = λ j y. omega arith;
+        page = λ j y. omega arith;
+        last = λ j y g. omega (arith, page-few v j g);
+        both = λ a b s t. simp length-append (omega arith);
+      })
+      (levelsAt w - 1) (rootAt w) in
+      list-all L w v Few (omega arith) (λ _. h) (omega arith)

@@ -32,8 +32,8 @@ pub formatted-printed : (w : List ℕ) (k : ℕ) → T (goodLength L w) → form
 formatted-printed w k h =
     let g = length-iff L w .0 h in
     let N = pagesIn L w in
-    let e : 30 + L * (N - 1) ≡ length w - 2 = omega (arith, g .long, g .least) in
-    sym (ap₂ (λ a b. k ∷ N ∷ (a ++ b)) (pad-none 30) (free-pages L (N - 1) 1) ∙ (ap (λ l. k ∷ N ∷ l) (replicate-append-replicate 30 (L * (N - 1)) 0) ∙ ap (λ m. k ∷ N ∷ replicate m 0) e))
+    let e : L - 2 + L * (N - 1) ≡ length w - 2 = omega (arith, g .long, g .least) in
+    sym (ap₂ (λ a b. k ∷ N ∷ (a ++ b)) (pad-none (L - 2)) (free-pages L (N - 1) 1) ∙ (ap (λ l. k ∷ N ∷ l) (replicate-append-replicate (L - 2) (L * (N - 1)) 0) ∙ ap (λ m. k ∷ N ∷ replicate m 0) e))
 
 pub none-formed : (w : List ℕ) (k : ℕ) → T (goodLength L w) → T (goodDomains k) → WellFormed L k (pagesIn L w) none
 none-formed w k h d =

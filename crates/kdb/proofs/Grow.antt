@@ -7,8 +7,7 @@ use mathlib.Core.Option.{none, some}
 use mathlib.Core.Path.{_≡_, refl, sym, ap, _∙_, subst}
 use Prim.Native.Nat.{ℕ, zero, suc, _+_, _-_, _<_, _≤_}
 use native.Mathlib.Omega.{arith}
-use native.Mathlib.Nat.{mod-lt}
-use lib.Dec.{T, leb, eqb, leb→le, le→leb, nleb→lt, T-not, not-T, eqb→eq, lit≤}
+use lib.Dec.{T, leb, eqb, leb→le, le→leb, nleb→lt, T-not, not-T, eqb→eq}
 use lib.ListN.{length, take, drop, getD, length-append, length-drop, drop-of-length-le}
 use lib.Seq.{take-add, take-suc, drop-drop, drop-cons}
 use Rattle.kdb.specs.Lists.{bit, only, tally, every, many, same, upFrom}
@@ -24,7 +23,7 @@ use Rattle.kdb.proofs.Tiling
 use Rattle.kdb.proofs.Tiling.{tiles-counted, counted-tiles, Inside, on, part, part-solid, two-hold, two-tile}
 use Rattle.kdb.proofs.Box.{within-length}
 use Rattle.kdb.proofs.Cut.{PointsCut, points-cut, points-rooms, points-inside, RegionsCut, regions-cut, regions-rooms, entry-length}
-use Rattle.kdb.proofs.Split.{need, half, halfF, split-some, split-none, half-records, half-pages, half-boxes, point-half, region-half, shapedF-half, shaped-levels}
+use Rattle.kdb.proofs.Split.{chosen-below, need, half, halfF, split-some, split-none, half-records, half-pages, half-boxes, point-half, region-half, shapedF-half, shaped-levels}
 use Rattle.kdb.proofs.Fair.{FairPoints, FairRegions, FairWider, Fair, FairF}
 
 -- what a page becomes, with the pages claimed: one page; two pages, cut along a key of a domain
@@ -71,7 +70,7 @@ module _ (k R P : ℕ) where
   abbrev pub broken : Cut → Tree → ℕ → List ℕ → Out
   broken nowhere t u free = one t u
   broken (cut d x) t u free =
-      two d x (half d x t true (afterChosen k d) (drop u free)) (half d x t false (afterChosen k d) (drop u free)) (u + need d x t)
+      two d x (half k d x t true (afterChosen k d) (drop u free)) (half k d x t false (afterChosen k d) (drop u free)) (u + need d x t)
 
   abbrev pub settledLeaf : ℕ → ℕ → List Rec → List ℕ → Out
   settledLeaf p e rs free = elim (leb (length rs) P) [ true ↦ one (leaf p e rs) 0 | false ↦ broken (cutPoints k e rs) (leaf p e rs) 0 free ]
@@ -199,23 +198,23 @@ module _ (k R P : ℕ) where
       bool (leb (u + need d x t) (length free))
       (λ c. let i = leb→le (u + need d x t) (length free) c in
       ap (parted d x) (split-some k d x t (afterChosen k d) (drop u free) (omega (arith, length-drop u free)))
-      ∙ (ap (λ fr. parts d x (record { lt = half d x t true (afterChosen k d) (drop u free); rt = half d x t false (afterChosen k d) (drop u free); free = fr })) (drop-drop (need d x t) u free)
+      ∙ (ap (λ fr. parts d x (record { lt = half k d x t true (afterChosen k d) (drop u free); rt = half k d x t false (afterChosen k d) (drop u free); free = fr })) (drop-drop (need d x t) u free)
       ∙ sym (shown-enough (broken k R P (cut d x) t u free) free i)))
       (λ c. let i = nleb→lt (u + need d x t) (length free) c in
       ap (parted d x) (split-none k d x t (afterChosen k d) (drop u free) (omega (arith, length-drop u free)))
       ∙ sym (shown-short (broken k R P (cut d x) t u free) free i))
 
   broken-fit : (t t′ : Tree) (q : Rec) (free : List ℕ) (n : ℕ) (b : Box) (d x u : ℕ) → Inside d x b
-      → Shaped k R P (half d x t′ true (afterChosen k d) (drop u free)) n (leftPart d x b) → Shaped k R P (half d x t′ false (afterChosen k d) (drop u free)) n (rightPart d x b)
+      → Shaped k R P (half k d x t′ true (afterChosen k d) (drop u free)) n (leftPart d x b) → Shaped k R P (half k d x t′ false (afterChosen k d) (drop u free)) n (rightPart d x b)
       → ((g : Rec → Bool) → tally g (records t′) ≡ tally g (records t) + bit (g q))
       → ((g : ℕ → Bool) → u ≤ length free → tally g (pages t′) ≡ tally g (pages t) + tally g (take u free))
       → Fit k R P t q free n b (broken k R P (cut d x) t′ u free)
   broken-fit t t′ q free n b d x u i l r held paged =
       record {
         shaped = (i, l, r);
-        held = λ g. half-records d x t′ (afterChosen k d) (drop u free) g ∙ held g;
+        held = λ g. half-records k d x t′ (afterChosen k d) (drop u free) g ∙ held g;
         paged = λ g h.
-            let a = half-pages d x t′ (afterChosen k d) (drop u free) g (omega (arith, length-drop u free)) in
+            let a = half-pages k d x t′ (afterChosen k d) (drop u free) g (omega (arith, length-drop u free)) in
             let c = ap (tally g) (take-add u (need d x t′) free) ∙ tally-append g (take u free) (take (need d x t′) (drop u free)) in
             omega (arith, paged g (omega arith));
       }
@@ -266,7 +265,7 @@ module _ (k R P : ℕ) where
       fit false room over =
           let c = cuts (over tt) in
           let ins = points-inside k e b rs′ inside c in
-          let dom : afterChosen k (c .dom) < k = mod-lt (c .dom + 1) (omega (arith, c .below)) in
+          let dom = chosen-below k (c .dom) (c .below) in
           subst (λ z. Fit k R P (leaf p e rs) q free n b (broken k R P z (leaf p e rs′) 0 free)) (sym (c .is))
           (broken-fit (leaf p e rs) (leaf p e rs′) q free n b (c .dom) (c .at) 0 ins
           (h .0, point-half k R P (c .dom) (c .at) true (afterChosen k (c .dom)) rs′ b dom ins inside differs (rooms c true))
@@ -352,9 +351,9 @@ module _ (k R P : ℕ) where
               let c = cuts (oneMore g u) w (over tt) in
               let d = c .dom in
               let x = c .at in
-              let dom : afterChosen k d < k = mod-lt (d + 1) (omega (arith, c .below)) in
-              let page-half : (s : Bool) → RegionPage k R (afterChosen k d) (boxes (halfF d x g s (drop 1 (drop u free)))) (part s d x b) = λ s.
-              subst (λ bs. RegionPage k R (afterChosen k d) bs (part s d x b)) (sym (half-boxes d x g s (drop 1 (drop u free))))
+              let dom = chosen-below k d (c .below) in
+              let page-half : (s : Bool) → RegionPage k R (afterChosen k d) (boxes (halfF k d x g s (drop 1 (drop u free)))) (part s d x b) = λ s.
+              subst (λ bs. RegionPage k R (afterChosen k d) bs (part s d x b)) (sym (half-boxes k d x g s (drop 1 (drop u free))))
               (region-half k R P d x s (afterChosen k d) (boxes g) b dom (c .inside) (tiled (oneMore g u) w) (omega (arith, w .wide)) (rooms (oneMore g u) w c s)) in
               subst (λ z. Fit k R P (node p e f) q free (suc n) b (broken k R P z (node p e g) u free)) (sym (c .is))
               (broken-fit (node p e f) (node p e g) q free (suc n) b d x u (c .inside)
@@ -534,14 +533,6 @@ pub record Roomy (L k : ℕ) : Type 0 where
   pub domains : 1 ≤ k
   pub points : 1 ≤ pointsPer L k
   pub regions : 2 ≤ regionsPer L k
-
-pub roomy-32 : (k : ℕ) → 1 ≤ k → k ≤ 4 → Roomy 32 k
-roomy-32 zero h i = absurd (omega arith)
-roomy-32 (suc zero) h i = record { domains = lit≤ tt; points = lit≤ tt; regions = lit≤ tt }
-roomy-32 (suc (suc zero)) h i = record { domains = lit≤ tt; points = lit≤ tt; regions = lit≤ tt }
-roomy-32 (suc (suc (suc zero))) h i = record { domains = lit≤ tt; points = lit≤ tt; regions = lit≤ tt }
-roomy-32 (suc (suc (suc (suc zero)))) h i = record { domains = lit≤ tt; points = lit≤ tt; regions = lit≤ tt }
-roomy-32 (suc (suc (suc (suc (suc k))))) h i = absurd (omega arith)
 
 -- a tree at its own level
 at-levels : (k R P : ℕ) (t : Tree) (n : ℕ) (r : Box) → Shaped k R P t n r → Shaped k R P t (levels t - 1) r

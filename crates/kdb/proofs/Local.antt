@@ -16,6 +16,7 @@ use Rattle.kdb.specs.Pool.{domains, rootAt, levelsAt, pagesIn, view, goo
 use Rattle.kdb.specs.Walk.{spots, Tour, still, astray, badAt, readAt, follow, through, goodPoints, goodRegions, tour, bounded, listWalk, rootless, bad, here, Search, ends, after, spotOf, into, seek, findWalk}
 use Rattle.kdb.specs.Calls.{L, Call, Buffers, Outcome, Test, unless, judge, allHold, tests, core, lent, outcome, begins, Route, noWalk, toPoint, overWindow, row, readOn, walkOf}
 use Rattle.kdb.specs.Demands.{Agree, Told, walks, Local}
+use Rattle.kdb.proofs.Length.{four}
 use Rattle.kdb.proofs.Walk.{walk-begun}
 use Rattle.kdb.proofs.Lawful.{SameWalk, SameRow, lawful}
 use Rattle.kdb.proofs.Lists.{and-i, bool, cases, is-true, self, tally-front, take-past, take-less, many-append}
@@ -249,8 +250,8 @@ judge-told (t ∷ ts) b b′ o o′ d f = go (t .holds) (λ h. judge-told ts b b
 -- pools that agree on a walk's pages have the same walk
 route-same : (w w′ : List ℕ) (r : Route) → Agree L w w′ (readOn w r) → SameWalk w w′ r
 route-same w w′ noWalk a = tt
-route-same w w′ (toPoint p) a = find-same L (omega arith) w w′ p a
-route-same w w′ (overWindow v) a = list-same L (omega arith) w w′ v a
+route-same w w′ (toPoint p) a = find-same L four w w′ p a
+route-same w w′ (overWindow v) a = list-same L four w w′ v a
 
 read-same : (w w′ : List ℕ) (r : Route) → SameWalk w w′ r → readOn w′ r ≡ readOn w r
 read-same w w′ noWalk s = refl
@@ -260,7 +261,7 @@ read-same w w′ (overWindow v) s = ap (λ t. t .read) s
 -- a call with a walk, on pools that agree on its pages
 module _ (w w′ : List ℕ) (c : Call) (t : T (walks (row c .route w))) (a : Agree L w w′ (walkOf w c)) where
   word : (i : ℕ) → i < 4 → getD w′ i 0 ≡ getD w i 0
-  word = agree-word L (omega arith) w w′ (walkOf w c) a
+  word = agree-word L four w w′ (walkOf w c) a
 
   alike : SameRow w w′ c
   alike = lawful c .alike w w′ t (word 0 (omega arith))

@@ -26,11 +26,12 @@ use Rattle.kdb.proofs.Stands.{Stands}
 use Rattle.kdb.proofs.Pool.{length-iff, header-iff, sound-iff, Sound-stands}
 use Rattle.kdb.proofs.Walk.{walk-find}
 use Rattle.kdb.proofs.Bad.{find-six, find-eight, find-done, find-located, list-six, list-done, list-told}
-use Rattle.kdb.proofs.Grow.{roomy-32, key-once, Placing, claims, placed-none-iff}
+use Rattle.kdb.proofs.Grow.{key-once, Placing, claims, placed-none-iff}
+use Rattle.kdb.proofs.Length.{big, roomy}
 use Rattle.kdb.proofs.Wanting.{ample, wanting}
 use Rattle.kdb.proofs.Reading.{Answers, find-rootless, find-answers}
 use Rattle.kdb.proofs.Calls.{done, goes-on, judge-after, judge-past, judge-fails, avoids, all-held, given}
-use Rattle.kdb.proofs.Effects.{big, Passed, passed-within, place-placing, moves, kept-size, does-size}
+use Rattle.kdb.proofs.Effects.{Passed, passed-within, place-placing, moves, kept-size, does-size}
 use Rattle.kdb.proofs.Lawful.{lawful, late, sizes, refusal-keeps, quiet, done-does}
 use Rattle.kdb.proofs.Answers.{one-located}
 use Rattle.kdb.proofs.Demands.{long-one}
@@ -263,7 +264,7 @@ module _ (w : List ℕ) where
   new-placed : (work p : List ℕ) (l : ℕ) → New w work p → Placing L (domains w) (pagesIn L w) (stateOf L w) (record { key = p; loc = l })
   new-placed work p l n =
       let f = Sound-stands L w (n .sound) big .formed in
-      record { roomy = roomy-32 (domains w) (f .domains .0) (f .domains .1); formed = f; inside = passed-within w p (good-passed w p (n .sound) (n .point)); new = n .absent }
+      record { roomy = roomy (domains w) (f .domains .0) (f .domains .1); formed = f; inside = passed-within w p (good-passed w p (n .sound) (n .point)); new = n .absent }
 
 -- find and list on any pool, once their arguments are taken
 module _ (w : List ℕ) where

@@ -8,7 +8,7 @@ use Prim.Native.Nat.{ℕ, zero, suc}
 use Prim.Native.String.{String}
 use lib.Dec.{eqb}
 use lib.ListN.{replicate}
-use Rattle.kdb.specs.Calls.{Call, check, place, list, Buffers, outcome, lent, walkOf}
+use Rattle.kdb.specs.Calls.{L, Call, check, place, list, Buffers, outcome, lent, walkOf}
 use Rattle.kdb.specs.History.{answers}
 
 pub record Row : Type 0 where
@@ -90,7 +90,7 @@ words (suc n) (w ∷ ws) = w ∷ words n ws
 
 abbrev pub pool-of : List (List ℕ) → List ℕ
 pool-of [] = []
-pool-of (p ∷ ps) = words 32 p ++ pool-of ps
+pool-of (p ∷ ps) = words L p ++ pool-of ps
 
 -- the words with v for word i
 abbrev pub but : ℕ → ℕ → List ℕ → List ℕ

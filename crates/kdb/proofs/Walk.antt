@@ -5,99 +5,113 @@ use mathlib.Core.List.{List, [], _∷_, _++_, append-assoc}
 use mathlib.Core.Path.{_≡_, refl, sym, ap, _∙_}
 use Prim.Native.Nat.{ℕ, zero, suc, _+_, _-_, _<_, _≤_}
 use native.Mathlib.Omega.{arith}
-use lib.Dec.{T, leb, ltb, eqb, leb→le, ltb→lt}
+use lib.Dec.{T, leb, ltb, eqb, leb→le, ltb→lt, eqb→eq}
 use lib.ListN.{length, take, getD, length-take, length-append}
 use lib.Seq.{getD-at}
-use Rattle.kdb.specs.Lists.{every, Each, many, same}
-use Rattle.kdb.specs.Box.{Box, Key, within, meets}
+use Rattle.kdb.specs.Lists.{only, every, Each, many, same}
+use Rattle.kdb.specs.Box.{Box, Key, within, inWindow, meets}
 use Rattle.kdb.specs.Tree.{Rec}
 use Rattle.kdb.specs.Pages.{Ent, recsIn, entsIn}
 use Rattle.kdb.specs.Pool.{domains, rootAt, levelsAt, pagesIn, view, goodHeader, isPage}
-use Rattle.kdb.specs.Walk.{Spot, Tour, still, follow, through, goodPoints, goodRegions, tour, bounded, listWalk, End, rootless, bad, absent, here, Search, ends, into, seek, findWalk, spots, spotOf}
+use Rattle.kdb.specs.Walk.{Spot, Tour, still, astray, badAt, readAt, follow, through, goodPoints, goodRegions, tour, bounded, listWalk, End, rootless, bad, absent, here, Search, ends, after, into, seek, findWalk, spots, spotOf}
 use Rattle.kdb.proofs.Calls.{done}
 use Rattle.kdb.proofs.Pool.{header-iff}
 use Rattle.kdb.specs.Calls.{L, Call, find, list, Buffers, finding, listing, filled, lent, outcome, windowOf, begins, walkOf, Route, noWalk, toPoint, overWindow, row, readOn}
 use Rattle.kdb.specs.Demands.{walks}
-use Rattle.kdb.proofs.Lists.{and-l, and-r, and-i, cases, is-true, every-append, every-take, every-many, some-many, same-eq, each-only, each-append}
-
--- the length of a walk into entries
-into-length : (below : ℕ → Search) (p : Key) (m : ℕ) → ((c : ℕ) → length (below c .read) ≤ m) → (es : List Ent) → length (into below p es .read) ≤ m
-into-length below p m h [] = omega arith
-into-length below p m h (e ∷ es) =
-    cases (λ b. length (cond b (below (e .child)) (into below p es) .read) ≤ m) (within (e .box) p) (λ _. h (e .child)) (λ _. into-length below p m h es)
-
--- a test that holds of all pages read by two walks holds of those read by one after the other
-follow-every : (f : ℕ → Bool) (a b : Tour) → T (every f (a .read)) → T (every f (b .read)) → T (every f (follow a b .read))
-follow-every f a b s t =
-    cases (λ z. T (every f (cond z a (record { read = a .read ++ b .read; bad = b .bad; found = a .found ++ b .found }) .read))) (a .bad)
-    (λ _. s) (λ _. every-append f (a .read) (b .read) s t)
-
-through-every : (f : ℕ → Bool) (below : ℕ → Tour) (v : Box) → ((c : ℕ) → T (every f (below c .read))) → (es : List Ent) → T (every f (through below v es .read))
-through-every f below v h [] = tt
-through-every f below v h (e ∷ es) =
-    follow-every f (cond (meets (e .box) v) (below (e .child)) still) (through below v es)
-    (cases (λ b. T (every f (cond b (below (e .child)) still .read))) (meets (e .box) v) (λ _. h (e .child)) (λ _. tt)) (through-every f below v h es)
-
-into-every : (f : ℕ → Bool) (below : ℕ → Search) (p : Key) → ((c : ℕ) → T (every f (below c .read))) → (es : List Ent) → T (every f (into below p es .read))
-into-every f below p h [] = tt
-into-every f below p h (e ∷ es) =
-    cases (λ b. T (every f (cond b (below (e .child)) (into below p es) .read))) (within (e .box) p) (λ _. h (e .child)) (λ _. into-every f below p h es)
+use Rattle.kdb.proofs.Lists.{and-l, and-r, and-i, cases, is-true, every-append, every-take, every-many, some-many, same-eq}
 
 -- at a page of the pool and elsewhere; at a good page and at a bad one
-pub at-page : {A : Type 0} (P : A → Type 0) (page good : Bool) (x y z : A) → (T page → P x) → (T page → P y) → P z → P (cond page (cond good x y) z)
+at-page : {A : Type 0} (P : A → Type 0) (page good : Bool) (x y z : A) → (T page → T good → P x) → (T page → P y) → P z → P (cond page (cond good x y) z)
 at-page P false good x y z f g h = h
-at-page P true true x y z f g h = f tt
+at-page P true true x y z f g h = f tt tt
 at-page P true false x y z f g h = g tt
 
+-- what a property needs so that every search has it, n levels above the point pages: it holds where a search ends, and of a page with the search below it
+pub record EverySearch (L : ℕ) (w : List ℕ) (p : Key) (P : ℕ → Search → Type 0) : Type 0 where
+  pub lost : (n : ℕ) → P n (ends [] bad)
+  pub spoilt : (n j : ℕ) → T (isPage L w j) → P n (ends (j ∷ []) bad)
+  pub last : (j : ℕ) → T (isPage L w j) → P 0 (ends (j ∷ []) (spotOf j p (spots j 0 (recsIn (view L w j)))))
+  pub down : (n j : ℕ) (s : Search) → T (isPage L w j) → P n s → P (suc n) (after j s)
+
+-- likewise for tours: nothing read, no page, a bad page, a region page alone, a point page, and one tour with the next
+pub record EveryTour (L : ℕ) (w : List ℕ) (v : Box) (P : Tour → Type 0) : Type 0 where
+  pub none : P still
+  pub lost : P astray
+  pub spoilt : (j : ℕ) → T (isPage L w j) → P (badAt j)
+  pub page : (j : ℕ) → T (isPage L w j) → P (readAt j [])
+  pub last : (j : ℕ) → T (isPage L w j) → T (goodPoints L w j) → P (readAt j (only (λ s. inWindow v (s .rec .key)) (spots j 0 (recsIn (view L w j)))))
+  pub both : (a b : Tour) → P a → P b → P (record { read = a .read ++ b .read; bad = b .bad; found = a .found ++ b .found })
+
 module _ (L : ℕ) (w : List ℕ) where
-  pub bounded-length : (N : ℕ) (t : Tour) → length (bounded L w N t .read) ≤ N - 1
-  bounded-length N t =
-      cases (λ b. length (cond b t (record { read = take (N - 1) (t .read); bad = true; found = [] }) .read) ≤ N - 1) (ltb (length (t .read)) N)
-      (λ h. omega (arith, ltb→lt (length (t .read)) N h)) (λ _. omega (arith, length-take (N - 1) (t .read)))
+  pub seek-all : (p : Key) (P : ℕ → Search → Type 0) → EverySearch L w p P → (n j : ℕ) → P n (seek L w p n j)
+  seek-all p P h = go
+    where
+      under : (n : ℕ) → ((c : ℕ) → P n (seek L w p n c)) → (es : List Ent) → P n (into (seek L w p n) p es)
+      under n i [] = h .lost n
+      under n i (e ∷ es) = cases (λ b. P n (cond b (seek L w p n (e .child)) (into (seek L w p n) p es))) (within (e .box) p) (λ _. i (e .child)) (λ _. under n i es)
+
+      go : (n j : ℕ) → P n (seek L w p n j)
+      go zero j = at-page (P zero) (isPage L w j) (goodPoints L w j) _ _ _ (λ y _. h .last j y) (h .spoilt zero j) (h .lost zero)
+      go (suc n) j =
+          at-page (P (suc n)) (isPage L w j) (goodRegions L w j) _ _ _ (λ y _. h .down n j _ y (under n (go n) (entsIn (view L w j)))) (h .spoilt (suc n) j) (h .lost (suc n))
+
+  pub tour-all : (v : Box) (P : Tour → Type 0) → EveryTour L w v P → (n j : ℕ) → P (tour L w v n j)
+  tour-all v P h = go
+    where
+      next : (a b : Tour) → P a → P b → P (follow a b)
+      next a b s t = cases (λ z. P (cond z a (record { read = a .read ++ b .read; bad = b .bad; found = a .found ++ b .found }))) (a .bad) (λ _. s) (λ _. h .both a b s t)
+
+      under : (n : ℕ) → ((c : ℕ) → P (tour L w v n c)) → (es : List Ent) → P (through (tour L w v n) v es)
+      under n i [] = h .none
+      under n i (e ∷ es) = next _ _ (cases (λ b. P (cond b (tour L w v n (e .child)) still)) (meets (e .box) v) (λ _. i (e .child)) (λ _. h .none)) (under n i es)
+
+      go : (n j : ℕ) → P (tour L w v n j)
+      go zero j = at-page P (isPage L w j) (goodPoints L w j) _ _ _ (h .last j) (h .spoilt j) (h .lost)
+      go (suc n) j =
+          at-page P (isPage L w j) (goodRegions L w j) _ _ _ (λ y _. next (readAt j []) _ (h .page j y) (under n (go n) (entsIn (view L w j)))) (h .spoilt j) (h .lost)
+
+  -- a walk of find: with no root, or a search from it
+  pub find-all : (p : Key) (P : Search → Type 0) → (levelsAt w ≡ 0 → P (ends [] rootless)) → (1 ≤ levelsAt w → P (seek L w p (levelsAt w - 1) (rootAt w))) → P (findWalk L w p)
+  find-all p P r s =
+      cases (λ b. P (cond b (ends [] rootless) (seek L w p (levelsAt w - 1) (rootAt w)))) (eqb (levelsAt w) 0) (λ h. r (eqb→eq (levelsAt w) 0 h)) (λ h. s (some-many (levelsAt w) h))
+
+  -- a walk of list: with no root, within its bound, or stopped
+  pub list-all : (v : Box) (P : Tour → Type 0) → P still → (let t = tour L w v (levelsAt w - 1) (rootAt w) in (length (t .read) < pagesIn L w → P t)
+      → P (record { read = take (pagesIn L w - 1) (t .read); bad = true; found = [] }) → P (listWalk L w v))
+  list-all v P n f g =
+      let N = pagesIn L w in
+      let t = tour L w v (levelsAt w - 1) (rootAt w) in
+      cases (λ b. P (cond b still (bounded L w N t))) (eqb (levelsAt w) 0) (λ _. n)
+      (λ _. cases (λ b. P (cond b t (record { read = take (N - 1) (t .read); bad = true; found = [] }))) (ltb (length (t .read)) N) (λ h. f (ltb→lt (length (t .read)) N h)) (λ _. g))
 
   pub list-length : (v : Box) → length (listWalk L w v .read) ≤ pagesIn L w - 1
   list-length v =
-      cases (λ b. length (cond b still (bounded L w (pagesIn L w) (tour L w v (levelsAt w - 1) (rootAt w))) .read) ≤ pagesIn L w - 1) (eqb (levelsAt w) 0)
-      (λ _. omega arith) (λ _. bounded-length (pagesIn L w) (tour L w v (levelsAt w - 1) (rootAt w)))
+      list-all v (λ t. length (t .read) ≤ pagesIn L w - 1) (omega arith) (λ h. omega arith) (omega (arith, length-take (pagesIn L w - 1) (tour L w v (levelsAt w - 1) (rootAt w) .read)))
 
   pub seek-length : (p : Key) (n j : ℕ) → length (seek L w p n j .read) ≤ n + 1
-  seek-length p zero j = at-page (λ (s : Search). length (s .read) ≤ 0 + 1) (isPage L w j) (goodPoints L w j) _ _ _ (λ _. omega arith) (λ _. omega arith) (omega arith)
-  seek-length p (suc n) j =
-      at-page (λ (s : Search). length (s .read) ≤ suc n + 1) (isPage L w j) (goodRegions L w j) _ _ _
-      (λ _. omega (arith, into-length (seek L w p n) p (n + 1) (seek-length p n) (entsIn (view L w j)))) (λ _. omega arith) (omega arith)
+  seek-length p =
+      seek-all p (λ n s. length (s .read) ≤ n + 1)
+      (record { lost = λ n. omega arith; spoilt = λ n j y. omega arith; last = λ j y. omega arith; down = λ n j s y h. omega arith })
 
   pub find-length : (p : Key) → length (findWalk L w p .read) ≤ levelsAt w
-  find-length p =
-      cases (λ b. length (cond b (ends [] rootless) (seek L w p (levelsAt w - 1) (rootAt w)) .read) ≤ levelsAt w) (eqb (levelsAt w) 0)
-      (λ _. omega arith) (λ h. omega (arith, some-many (levelsAt w) h, seek-length p (levelsAt w - 1) (rootAt w)))
+  find-length p = find-all p (λ s. length (s .read) ≤ levelsAt w) (λ _. omega arith) (λ h. omega (arith, seek-length p (levelsAt w - 1) (rootAt w)))
 
-  tour-pages : (v : Box) (n j : ℕ) → T (every (isPage L w) (tour L w v n j .read))
-  tour-pages v zero j =
-      at-page (λ (t : Tour). T (every (isPage L w) (t .read))) (isPage L w j) (goodPoints L w j) _ _ _ (λ h. and-i (isPage L w j) true h tt) (λ h. and-i (isPage L w j) true h tt) tt
-  tour-pages v (suc n) j =
-      at-page (λ (t : Tour). T (every (isPage L w) (t .read))) (isPage L w j) (goodRegions L w j) _ _ _
-      (λ h. and-i (isPage L w j) _ h (through-every (isPage L w) (tour L w v n) v (tour-pages v n) (entsIn (view L w j)))) (λ h. and-i (isPage L w j) true h tt) tt
-
-  seek-pages : (p : Key) (n j : ℕ) → T (every (isPage L w) (seek L w p n j .read))
-  seek-pages p zero j =
-      at-page (λ (t : Search). T (every (isPage L w) (t .read))) (isPage L w j) (goodPoints L w j) _ _ _ (λ h. and-i (isPage L w j) true h tt) (λ h. and-i (isPage L w j) true h tt) tt
-  seek-pages p (suc n) j =
-      at-page (λ (t : Search). T (every (isPage L w) (t .read))) (isPage L w j) (goodRegions L w j) _ _ _
-      (λ h. and-i (isPage L w j) _ h (into-every (isPage L w) (seek L w p n) p (seek-pages p n) (entsIn (view L w j)))) (λ h. and-i (isPage L w j) true h tt) tt
+  -- a walk reads nothing but pages
+  one-page : (j : ℕ) → T (isPage L w j) → T (every (isPage L w) (j ∷ []))
+  one-page j h = and-i (isPage L w j) true h tt
 
   pub list-pages : (v : Box) → T (every (isPage L w) (listWalk L w v .read))
   list-pages v =
-      let N = pagesIn L w in
-      let t = tour L w v (levelsAt w - 1) (rootAt w) in
-      let h = tour-pages v (levelsAt w - 1) (rootAt w) in
-      cases (λ b. T (every (isPage L w) (cond b still (bounded L w N t) .read))) (eqb (levelsAt w) 0) (λ _. tt)
-      (λ _. cases (λ b. T (every (isPage L w) (cond b t (record { read = take (N - 1) (t .read); bad = true; found = [] }) .read))) (ltb (length (t .read)) N)
-      (λ _. h) (λ _. every-take (isPage L w) (N - 1) (t .read) h))
+      let h = tour-all v (λ t. T (every (isPage L w) (t .read)))
+      (record { none = tt; lost = tt; spoilt = one-page; page = one-page; last = λ j y _. one-page j y; both = λ a b. every-append (isPage L w) (a .read) (b .read) })
+      (levelsAt w - 1) (rootAt w) in
+      list-all v (λ t. T (every (isPage L w) (t .read))) tt (λ _. h) (every-take (isPage L w) (pagesIn L w - 1) (tour L w v (levelsAt w - 1) (rootAt w) .read) h)
 
   find-pages : (p : Key) → T (every (isPage L w) (findWalk L w p .read))
   find-pages p =
-      cases (λ b. T (every (isPage L w) (cond b (ends [] rootless) (seek L w p (levelsAt w - 1) (rootAt w)) .read))) (eqb (levelsAt w) 0)
-      (λ _. tt) (λ _. seek-pages p (levelsAt w - 1) (rootAt w))
+      find-all p (λ s. T (every (isPage L w) (s .read))) (λ _. tt)
+      (λ _. seek-all p (λ n s. T (every (isPage L w) (s .read)))
+      (record { lost = λ n. tt; spoilt = λ n. one-page; last = one-page; down = λ n j s y h. and-i (isPage L w j) _ y h }) (levelsAt w - 1) (rootAt w))
 
 -- no walk is longer than N − 1: find's in a pool with a good header, list's on any words
 pub route-bound : (w : List ℕ) (r : Route) → (T (walks r) → T (goodHeader L w)) → length (readOn w r) ≤ pagesIn L w - 1
@@ -193,48 +207,20 @@ spots-named L w j i pre (r ∷ rs) h e = (
   spots-named L w j (suc i) (pre ++ (r ∷ [])) rs (omega (arith, length-append pre (r ∷ []))) (append-assoc pre (r ∷ []) rs ∙ e),
 )
 
-module _ (P : Spot → Type 0) where
-  follow-each : (a b : Tour) → Each P (a .found) → Each P (b .found) → Each P (follow a b .found)
-  follow-each a b h k =
-      cases (λ z. Each P (cond z a (record { read = a .read ++ b .read; bad = b .bad; found = a .found ++ b .found }) .found)) (a .bad)
-      (λ _. h) (λ _. each-append P (a .found) (b .found) h k)
+-- where find ends at a record, that is among those of a page and has the point's keys
+spot-ends : (P Q : Spot → Type 0) (j : ℕ) (p : Key) → ((x : Spot) → P x → x .rec .key ≡ p → Q x) → (ss : List Spot) → Each P ss → Ends Q (spotOf j p ss)
+spot-ends P Q j p f [] h = tt
+spot-ends P Q j p f (s ∷ ss) h =
+    cases (λ b. Ends Q (cond b (here s) (spotOf j p ss))) (same p (s .rec .key)) (λ t. f s (h .0) (sym (same-eq p (s .rec .key) t))) (λ _. spot-ends P Q j p f ss (h .1))
 
-  through-each : (below : ℕ → Tour) (v : Box) → ((c : ℕ) → Each P (below c .found)) → (es : List Ent) → Each P (through below v es .found)
-  through-each below v h [] = tt
-  through-each below v h (e ∷ es) =
-      follow-each (cond (meets (e .box) v) (below (e .child)) still) (through below v es)
-      (cases (λ b. Each P (cond b (below (e .child)) still .found)) (meets (e .box) v) (λ _. h (e .child)) (λ _. tt)) (through-each below v h es)
+pub find-ends : (L : ℕ) (w : List ℕ) (p : Key) (P Q : Spot → Type 0) → ((x : Spot) → P x → x .rec .key ≡ p → Q x) → ((j : ℕ) → Each P (spots j 0 (recsIn (view L w j))))
+    → Ends Q (findWalk L w p .end)
+find-ends L w p P Q f h =
+    find-all L w p (λ s. Ends Q (s .end)) (λ _. tt)
+    (λ _. seek-all L w p (λ n s. Ends Q (s .end))
+    (record { lost = λ n. tt; spoilt = λ n j y. tt; last = λ j y. spot-ends P Q j p f (spots j 0 (recsIn (view L w j))) (h j); down = λ n j s y i. i }) (levelsAt w - 1) (rootAt w))
 
-  spot-ends : (j : ℕ) (p : Key) (ss : List Spot) → Each P ss → Ends (λ x. P x × (x .rec .key ≡ p)) (spotOf j p ss)
-  spot-ends j p [] h = tt
-  spot-ends j p (s ∷ ss) h =
-      cases (λ b. Ends (λ x. P x × (x .rec .key ≡ p)) (cond b (here s) (spotOf j p ss))) (same p (s .rec .key))
-      (λ t. (h .0, sym (same-eq p (s .rec .key) t))) (λ _. spot-ends j p ss (h .1))
-
-  into-ends : (below : ℕ → Search) (p : Key) → ((c : ℕ) → Ends P (below c .end)) → (es : List Ent) → Ends P (into below p es .end)
-  into-ends below p h [] = tt
-  into-ends below p h (e ∷ es) =
-      cases (λ b. Ends P (cond b (below (e .child)) (into below p es) .end)) (within (e .box) p) (λ _. h (e .child)) (λ _. into-ends below p h es)
-
-module _ (L : ℕ) (w : List ℕ) where
-  tour-named : (v : Box) (n j : ℕ) → Each (Named L w) (tour L w v n j .found)
-  tour-named v zero j =
-      at-page (λ (t : Tour). Each (Named L w) (t .found)) (isPage L w j) (goodPoints L w j) _ _ _
-      (λ _. each-only (Named L w) _ (spots j 0 (recsIn (view L w j))) (spots-named L w j 0 [] (recsIn (view L w j)) refl refl)) (λ _. tt) tt
-  tour-named v (suc n) j =
-      at-page (λ (t : Tour). Each (Named L w) (t .found)) (isPage L w j) (goodRegions L w j) _ _ _
-      (λ _. through-each (Named L w) (tour L w v n) v (tour-named v n) (entsIn (view L w j))) (λ _. tt) tt
-
-  seek-named : (p : Key) (n j : ℕ) → Ends (λ x. Named L w x × (x .rec .key ≡ p)) (seek L w p n j .end)
-  seek-named p zero j =
-      at-page (λ (s : Search). Ends (λ x. Named L w x × (x .rec .key ≡ p)) (s .end)) (isPage L w j) (goodPoints L w j) _ _ _
-      (λ _. spot-ends (Named L w) j p (spots j 0 (recsIn (view L w j))) (spots-named L w j 0 [] (recsIn (view L w j)) refl refl)) (λ _. tt) tt
-  seek-named p (suc n) j =
-      at-page (λ (s : Search). Ends (λ x. Named L w x × (x .rec .key ≡ p)) (s .end)) (isPage L w j) (goodRegions L w j) _ _ _
-      (λ _. into-ends (λ x. Named L w x × (x .rec .key ≡ p)) (seek L w p n) p (seek-named p n) (entsIn (view L w j))) (λ _. tt) tt
-
-  -- what a walk finds stands where it says, on any words
-  pub find-named : (p : Key) → Ends (λ x. Named L w x × (x .rec .key ≡ p)) (findWalk L w p .end)
-  find-named p =
-      cases (λ b. Ends (λ x. Named L w x × (x .rec .key ≡ p)) (cond b (ends [] rootless) (seek L w p (levelsAt w - 1) (rootAt w)) .end)) (eqb (levelsAt w) 0)
-      (λ _. tt) (λ _. seek-named p (levelsAt w - 1) (rootAt w))
+-- what find finds stands where it says, on any words
+pub find-named : (L : ℕ) (w : List ℕ) (p : Key) → Ends (λ x. Named L w x × (x .rec .key ≡ p)) (findWalk L w p .end)
+find-named L w p =
+    find-ends L w p (Named L w) (λ x. Named L w x × (x .rec .key ≡ p)) (λ x a b. (a, b)) (λ j. spots-named L w j 0 [] (recsIn (view L w j)) refl refl)

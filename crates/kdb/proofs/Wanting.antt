@@ -11,7 +11,7 @@ use lib.ListN.{length, drop}
 use Rattle.kdb.specs.Box.{Box, within, rightPart}
 use Rattle.kdb.specs.Tree.{Rec, Tree, leaf, node, Forest, fnil, fcons, State, dom, boxes}
 use Rattle.kdb.specs.Cut.{Cut, nowhere, cut, cutPoints, cutRegions, Lies, left, right, across, lies}
-use Rattle.kdb.specs.Steps.{afterChosen, size, joinF, topped, placedOn}
+use Rattle.kdb.specs.Steps.{afterChosen, afterForced, size, joinF, topped, placedOn}
 use Rattle.kdb.specs.Pages.{regionsPer, pointsPer}
 use Rattle.kdb.proofs.Tiling.{part}
 use Rattle.kdb.proofs.Split.{keepF, ifAcross, need, needF, half, halfF}
@@ -55,16 +55,17 @@ module _ (d x : ℕ) where
     needF-most fnil = omega arith
     needF-most (fcons b t f) = across-most (lies d x b) (need d x t) (needF d x f) (count t) (countF f) (need-most t) (needF-most f)
 
+module _ (k d x : ℕ) where
   mutual
-    half-most : (t : Tree) (s : Bool) (e : ℕ) (free : List ℕ) → count (half d x t s e free) ≤ count t
+    half-most : (t : Tree) (s : Bool) (e : ℕ) (free : List ℕ) → count (half k d x t s e free) ≤ count t
     half-most (leaf p d₀ rs) s e free = omega arith
     half-most (node p d₀ f) s e free = omega (arith, halfF-most f s (drop 1 free))
 
-    halfF-most : (f : Forest) (s : Bool) (free : List ℕ) → countF (halfF d x f s free) ≤ countF f
+    halfF-most : (f : Forest) (s : Bool) (free : List ℕ) → countF (halfF k d x f s free) ≤ countF f
     halfF-most fnil s free = omega arith
     halfF-most (fcons b t f) s free =
-        keep-most s (lies d x b) b (part s d x b) t (half d x t s (dom t) free) (halfF d x f s (drop (ifAcross (lies d x b) (need d x t)) free)) f
-        (half-most t s (dom t) free) (halfF-most f s (drop (ifAcross (lies d x b) (need d x t)) free))
+        keep-most s (lies d x b) b (part s d x b) t (half k d x t s (afterForced k (dom t)) free) (halfF k d x f s (drop (ifAcross (lies d x b) (need d x t)) free)) f
+        (half-most t s (afterForced k (dom t)) free) (halfF-most f s (drop (ifAcross (lies d x b) (need d x t)) free))
 
 -- what a tree becomes has at most `most` pages, and `enough` pages are always enough
 abbrev mutual
@@ -106,7 +107,7 @@ module _ (k R P : ℕ) where
   broken-modest nowhere t u free n m h g = record { pages = omega arith; claims = omega arith }
   broken-modest (cut d x) t u free n m h g =
       record {
-        pages = omega (arith, half-most d x t true (afterChosen k d) (drop u free), half-most d x t false (afterChosen k d) (drop u free));
+        pages = omega (arith, half-most k d x t true (afterChosen k d) (drop u free), half-most k d x t false (afterChosen k d) (drop u free));
         claims = omega (arith, need-most d x t);
       }
 

@@ -14,22 +14,16 @@ use text::put_hex;
 use text::put_value;
 use text::put_words;
 use text::words_of;
+use words::smaller;
 ghost use mathlib.Core.Path.{_≡_};
 ghost use mathlib.Core.List.{List, []};
 ghost use mathlib.Core.Option.{some};
-ghost use Prim.Native.Nat.{ℕ, _+_, _≤_, _^_, min};
+ghost use Prim.Native.Nat.{ℕ, _+_, _≤_, _^_};
 ghost use lib.ListN.{length, take};
 ghost use Rattle.kdb.specs.Frames.{withWords, newOf, placeOf, framed, obey};
 ghost use Rattle.index.specs.Answers.{formattedAs, placedAs, removedAs, foundAs, listedAs};
 ghost use Rattle.text.specs.Text.{counted, Written};
 ghost use Rattle.replies.specs.Reply.{valuesOf, textOf, removeOf, findOf, listOf, workAfter, Sized, Replied, Unframed, Spoken};
-
-// The smaller of two numbers.
-pub fn at_most(a: usize, b: usize) -> usize
-    ensures { λ r. ⌜ r ≡ min a b ⌝ }
-{
-    if a < b { a } else { b }
-}
 
 // The number of an answer and its values: how many of the two there are. With none the first is 0.
 struct Values {
@@ -310,7 +304,7 @@ fn list_frame(
     let mut slots = [0u32; 64];
     let v = listed_values(index::list(&pool[..words], &list[..n], &mut slots));
     let total = v.first;
-    let shown = at_most(total, 64);
+    let shown = smaller(total, 64);
     put_answer(out, at, v, &slots[..shown])
 }
 

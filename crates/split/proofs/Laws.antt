@@ -8,6 +8,7 @@ use lib.Dec.{leb, ltb, eqb, ltb→lt, nltb→le, nleb→lt}
 use lib.ListN.{length, take, drop, getD, replicate, List·getD-eq-default}
 use lib.Seq.{sets}
 use borrow.Author.Tests.{lt-ltb, le-leb, lt-leb, eq-eqb, ne-eqb, ltb-true, ltb-false}
+use Rattle.kdb.specs.Steps.{afterForced}
 use Rattle.kdb.specs.Calls.{L}
 use Rattle.kdb.specs.Pages.{page}
 use Rattle.kdb.proofs.Lists.{bool, is-true, is-false, and-t, sets-all}
@@ -87,20 +88,21 @@ module _ (n : ℕ) (w : List ℕ) (j : ℕ) (h : length w ≡ 32 * n) where
       (λ t. let g = nltb→le j n t in f (copied w j) (List·getD-eq-default w 0 {n = 32 * j + 1} (omega arith)))
 
   module _ (k d x : ℕ) where
-    no-points : (s : List ℕ) → word L w j 1 ≡ 0 → partPoints L n k d x s (word L w j 1) (word L w j 2) j w ≡ partPoints L n k d x (page L w j) (word L w j 1) (word L w j 2) j w
+    no-points : (e : ℕ) (s : List ℕ) → word L w j 1 ≡ 0 → partPoints L n k d x s (word L w j 1) e j w ≡ partPoints L n k d x (page L w j) (word L w j 1) e j w
     unfolding partPoints pointsIn
-    no-points s y = rw y
+    no-points e s y = rw y
 
-    pub split-points : (level : ℕ) → level ≡ 0 → partPoints L n k d x (copied w j) (word L w j 1) (word L w j 2) j w ≡ splitIn L n k d x level j w
+    pub split-points : (level : ℕ) → level ≡ 0 → partPoints L n k d x (copied w j) (word L w j 1) (afterForced k (word L w j 2)) j w ≡ splitIn L n k d x level j w
     unfolding splitIn
-    split-points level z = rw z (copied-page (λ s. partPoints L n k d x s (word L w j 1) (word L w j 2) j w) no-points)
+    split-points level z = let e = afterForced k (word L w j 2) in rw z (copied-page (λ s. partPoints L n k d x s (word L w j 1) e j w) (no-points e))
 
-    no-entries : (below : ℕ → List ℕ → Claimed) (s : List ℕ) → word L w j 1 ≡ 0
-        → partRegions L n k d x below s (word L w j 1) (word L w j 2) j w ≡ partRegions L n k d x below (page L w j) (word L w j 1) (word L w j 2) j w
+    no-entries : (below : ℕ → List ℕ → Claimed) (e : ℕ) (s : List ℕ) → word L w j 1 ≡ 0
+        → partRegions L n k d x below s (word L w j 1) e j w ≡ partRegions L n k d x below (page L w j) (word L w j 1) e j w
     unfolding partRegions entriesIn
-    no-entries below s y = rw y
+    no-entries below e s y = rw y
 
-    pub split-regions : (level l : ℕ) → level ≡ suc l → partRegions L n k d x (splitIn L n k d x l) (copied w j) (word L w j 1) (word L w j 2) j w ≡ splitIn L n k d x level j w
+    pub split-regions : (level l : ℕ) → level ≡ suc l → partRegions L n k d x (splitIn L n k d x l) (copied w j) (word L w j 1) (afterForced k (word L w j 2)) j w ≡ splitIn L n k d x level j w
     unfolding splitIn
     split-regions level l z =
-        rw z (copied-page (λ s. partRegions L n k d x (splitIn L n k d x l) s (word L w j 1) (word L w j 2) j w) (no-entries (splitIn L n k d x l)))
+        let e = afterForced k (word L w j 2) in
+        rw z (copied-page (λ s. partRegions L n k d x (splitIn L n k d x l) s (word L w j 1) e j w) (no-entries (splitIn L n k d x l) e))

@@ -10,10 +10,20 @@ use words::word;
 ghost use mathlib.Core.Path.{_≡_};
 ghost use Prim.Native.Nat.{_+_, _*_, _-_, _≤_, _<_, _^_};
 ghost use lib.ListN.{length};
+ghost use Rattle.kdb.specs.Steps.{afterForced};
 ghost use Rattle.kdb.specs.Calls.{L};
+ghost use Rattle.words.specs.Words.{wordAt};
 ghost use Rattle.steps.specs.Split.{entriesIn, partRegions, splitIn};
 ghost use Rattle.deal.specs.Part.{claimed, Cutting};
 ghost use Rattle.split.specs.Part.{passed};
+
+// The splitting domain of both pages after a forced split of page j.
+fn after_forced(pool: &[u32], k: usize, j: usize) -> usize
+    requires { ⌜ (1 ≤ k) × ((k ≤ 4) × (j < 2 ^ 32)) ⌝ }
+    ensures { λ r. ⌜ (r ≡ afterForced k (wordAt (now (pool .entry)) j 2)) × (r < 2 ^ 32) ⌝ }
+{
+    word(pool, j, 2)
+}
 
 // Splits page j, `level` levels above the point pages, along x in domain d: the right page, or 0 where a page is wanting.
 fn split_page(
@@ -29,7 +39,7 @@ fn split_page(
     ensures { λ r. ⌜ (claimed r (now (pool .exit)) ≡ splitIn L n k d x level j (now (pool .entry))) × (r < n) ⌝ }
 {
     let m = word(pool, j, 1);
-    let e = word(pool, j, 2);
+    let e = after_forced(pool, k, j);
     let mut old = [0u32; 32];
     copy_part(&mut old, 0, pool, 32 * j, 32);
     if level == 0 {

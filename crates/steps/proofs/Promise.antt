@@ -21,6 +21,7 @@ use Rattle.kdb.proofs.Stands.{Stands}
 use Rattle.kdb.proofs.Grow.{Placing, formed-fair, placed-formed, removed-formed}
 use Rattle.kdb.specs.declared.Refusal.the-variants.{NoFreePage}
 use Rattle.kdb.specs.Calls.{L, place, remove, alone, working, Outcome, gives, refuses, begins, core, placing, removing, stepped}
+use Rattle.kdb.proofs.Length.{big}
 use Rattle.kdb.proofs.Pool.{Sound-stands}
 use Rattle.kdb.proofs.Effects.{place-passed, place-placing, remove-passed}
 use Rattle.steps.specs.Machine.{Passed}
@@ -62,8 +63,8 @@ pub place-core : (w work p : List ℕ) (l : ℕ) → T (begins w (place work p l
     → core w (place work p l) ≡ cond (placeIn L p l w .ok) (gives [] (working w (placeIn L p l w .words))) (refuses NoFreePage (working w (placeIn L p l w .words)))
 place-core w work p l h =
     let q : Rec = record { key = p; loc = l } in
-    let st = Sound-stands L w (place-passed w work p l h .0 .well) (omega arith) in
-    sym (ap shown (place-prints L w (stateOf L w) q (omega arith) st (place-placing w work p l h)) ∙ go (stepped w q))
+    let st = Sound-stands L w (place-passed w work p l h .0 .well) big in
+    sym (ap shown (place-prints L w (stateOf L w) q big st (place-placing w work p l h)) ∙ go (stepped w q))
   where
     shown : Passed → Outcome
     shown o = cond (o .ok) (gives [] (working w (o .words))) (refuses NoFreePage (working w (o .words)))
@@ -76,5 +77,5 @@ place-core w work p l h =
 pub remove-core : (w p : List ℕ) (x : Spot) → T (begins w (remove p)) → findWalk L w p .end ≡ here x
     → core w (remove p) ≡ gives (x .rec .loc ∷ []) (alone (removeIn L (x .page) (x .slot) w))
 remove-core w p x h e =
-    let st = Sound-stands L w (remove-passed w p h .well) (omega arith) in
-    ap (λ n. removing n w p) e ∙ ap (λ v. gives (x .rec .loc ∷ []) (alone v)) (sym (remove-prints L w (stateOf L w) p x (omega arith) st e))
+    let st = Sound-stands L w (remove-passed w p h .well) big in
+    ap (λ n. removing n w p) e ∙ ap (λ v. gives (x .rec .loc ∷ []) (alone v)) (sym (remove-prints L w (stateOf L w) p x big st e))

@@ -1,6 +1,6 @@
 // Words of a lent pool: what is read and written of a page, and nothing of the tree.
 ghost use mathlib.Core.Path.{_≡_};
-ghost use Prim.Native.Nat.{_+_, _*_, _-_, _≤_, _<_, _^_, min};
+ghost use Prim.Native.Nat.{_+_, _*_, _-_, _≤_, _<_, _^_, min, max};
 ghost use lib.ListN.{length, getD, set, replicate};
 ghost use lib.Seq.{sets};
 ghost use Rattle.kdb.specs.Pool.{goodHeader};
@@ -59,10 +59,17 @@ pub fn page_count(pool: &[u32]) -> usize
     }
 }
 
-fn smaller(a: usize, b: usize) -> usize
+// The smaller and the larger of two numbers.
+pub fn smaller(a: usize, b: usize) -> usize
     ensures { λ r. ⌜ r ≡ min a b ⌝ }
 {
     if a < b { a } else { b }
+}
+
+pub fn larger(a: usize, b: usize) -> usize
+    ensures { λ r. ⌜ r ≡ max a b ⌝ }
+{
+    if a < b { b } else { a }
 }
 
 // The words from `from` to `to`, which are the pool's, are 0.

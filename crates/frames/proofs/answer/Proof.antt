@@ -6,18 +6,18 @@ use Rattle.frames.proofs.answer.Statement.{statement}
 use Rattle.frames.proofs.answer.Tie as tie
 use Rattle.frames.proofs.answer.Reads as reads
 use Rattle.frames.proofs.answer.Lts as lts
-use Rattle.replies.proofs.at_most.Reads as at-most-reads
+use Rattle.words.proofs.smaller.Reads as smaller-reads
 use Rattle.frames.proofs.line_answer.Reads as line-answer-reads
 
-at-most-requires : tie.Need-at-most-requires
-at-most-requires c κs = search needs
+smaller-requires : tie.Need-smaller-requires
+smaller-requires c κs = search needs
 
 line-answer-requires : tie.Need-line-answer-requires
 line-answer-requires c κs = search needs
 
 returns : tie.Need-returns
 returns c = let a = c .before .before .before .before .before .before .args in
-    rw (take-within (a .words) (c .before .before .before .before .at-most .result) (a .pool .now) (omega arith) (c .before .before .before .before .at-most .ensures)) at (c .line-answer .ensures)
+    rw (take-within (a .words) (c .before .before .before .before .smaller .result) (a .pool .now) (omega arith) (c .before .before .before .before .smaller .ensures)) at (c .line-answer .ensures)
 
 pub answer-spec : {M : Type 1} → statement M
-answer-spec = tie.close (tie.spec at-most-requires line-answer-requires returns)
+answer-spec = tie.close (tie.spec smaller-requires line-answer-requires returns)

@@ -4,11 +4,11 @@ use Rattle.frames.proofs.feed.Statement.{statement}
 use Rattle.frames.proofs.feed.Tie as tie
 use Rattle.frames.proofs.feed.Reads as reads
 use Rattle.frames.proofs.feed.Lts as lts
-use Rattle.replies.proofs.at_most.Reads as at-most-reads
+use Rattle.words.proofs.smaller.Reads as smaller-reads
 use Rattle.frames.proofs.feed_all.Reads as feed-all-reads
 
-at-most-requires : tie.Need-at-most-requires
-at-most-requires c κs = search needs
+smaller-requires : tie.Need-smaller-requires
+smaller-requires c κs = search needs
 
 feed-all-requires : tie.Need-feed-all-requires
 feed-all-requires c κs = search needs
@@ -17,7 +17,7 @@ same-length : tie.Need-same-length
 same-length c = search needs
 
 returns : tie.Need-returns
-returns c = rw (c .before .before .before .before .before .before .before .at-most .ensures) at (c .before .before .feed-all .ensures)
+returns c = rw (c .before .before .before .before .before .before .before .smaller .ensures) at (c .before .before .feed-all .ensures)
 
 pub feed-spec : {M : Type 1} → statement M
-feed-spec = tie.close (tie.spec at-most-requires feed-all-requires same-length returns)
+feed-spec = tie.close (tie.spec smaller-requires feed-all-requires same-length returns)

@@ -6,11 +6,11 @@ use Rattle.frames.proofs.finish.Statement.{statement}
 use Rattle.frames.proofs.finish.Tie as tie
 use Rattle.frames.proofs.finish.Reads as reads
 use Rattle.frames.proofs.finish.Lts as lts
-use Rattle.replies.proofs.at_most.Reads as at-most-reads
+use Rattle.words.proofs.smaller.Reads as smaller-reads
 use Rattle.frames.proofs.close.Reads as close-reads
 
-at-most-requires : tie.Need-at-most-requires
-at-most-requires c κs = search needs
+smaller-requires : tie.Need-smaller-requires
+smaller-requires c κs = search needs
 
 close-requires : tie.Need-close-requires
 close-requires c κs = search needs
@@ -20,7 +20,7 @@ same-length c = search needs
 
 returns : tie.Need-returns
 returns c = let a = c .before .before .before .before .before .before .before .before .before .args in
-    rw (take-within (a .from .words) (c .before .before .before .before .before .before .before .at-most .result) (a .pool .now) (omega arith) (c .before .before .before .before .before .before .before .at-most .ensures)) at (c .before .before .close .ensures)
+    rw (take-within (a .from .words) (c .before .before .before .before .before .before .before .smaller .result) (a .pool .now) (omega arith) (c .before .before .before .before .before .before .before .smaller .ensures)) at (c .before .before .close .ensures)
 
 pub finish-spec : {M : Type 1} → statement M
-finish-spec = tie.close (tie.spec at-most-requires close-requires same-length returns)
+finish-spec = tie.close (tie.spec smaller-requires close-requires same-length returns)

@@ -11,7 +11,7 @@ use Rattle.replies.proofs.list_frame.Statement.{statement}
 use Rattle.replies.proofs.list_frame.Tie as tie
 use Rattle.replies.proofs.list_frame.Reads as reads
 use Rattle.replies.proofs.list_frame.Lts as lts
-use Rattle.replies.proofs.at_most.Reads as at-most-reads
+use Rattle.words.proofs.smaller.Reads as smaller-reads
 use Rattle.replies.proofs.listed_values.Reads as listed-values-reads
 use Rattle.replies.proofs.no_frame.Reads as no-frame-reads
 use Rattle.replies.proofs.put_answer.Reads as put-answer-reads
@@ -42,17 +42,17 @@ list-requires c κs = search needs
 listed-values-requires : tie.Need-listed-values-requires
 listed-values-requires c κs = search needs
 
-at-most-requires : tie.Need-at-most-requires
-at-most-requires c κs = search needs
+smaller-requires : tie.Need-smaller-requires
+smaller-requires c κs = search needs
 
 array-share-prefix-slots : tie.Need-array-share-prefix-slots
-array-share-prefix-slots c = omega (arith, c .before .at-most .ensures)
+array-share-prefix-slots c = omega (arith, c .before .smaller .ensures)
 
 slice-aggregate-put-answer : tie.Need-slice-aggregate-put-answer
-slice-aggregate-put-answer c = sym (length-take-le _ _ (omega (arith, c .before .before .at-most .ensures, c .before .before .before .before .before .list .kept .1 .1 .0)))
+slice-aggregate-put-answer c = sym (length-take-le _ _ (omega (arith, c .before .before .smaller .ensures, c .before .before .before .before .before .list .kept .1 .1 .0)))
 
 put-answer-requires : tie.Need-put-answer-requires
-put-answer-requires c κs = (omega arith, simp length-take (omega (arith, c .before .before .at-most .ensures)))
+put-answer-requires c κs = (omega arith, simp length-take (omega (arith, c .before .before .smaller .ensures)))
 
 same-length-2 : tie.Need-same-length-2
 same-length-2 c = search needs
@@ -62,7 +62,7 @@ returns-2 c = let a = c .before .before .before .before .before .before .before 
     let w = take (a .words) (a .pool .now) in
     let full = c .before .before .before .before .before .before .before .before .list .last .1 .1 .0 in
     rw (counted-some 16 (a .n) (a .list .now) (c .before .before .before .before .before .before .before .before .before .before .before .before .if1 .left))
-    (list-replied (c .before .before .before .before .before .before .before .before .list .result) (a .words) (a .pool .now) (take (a .n) (a .list .now)) full slots (c .before .before .before .before .before .at-most .result) (c .before .before .before .before .before .before .before .before .list .ensures) (c .before .before .before .before .before .before .listed-values .ensures w full) (c .before .before .before .before .before .before .before .before .list .kept .1 .1 .0) (c .before .before .before .before .before .at-most .ensures) (omega arith) (c .before .before .put-answer .ensures .0) (c .before .before .put-answer .ensures .1) (omega arith))
+    (list-replied (c .before .before .before .before .before .before .before .before .list .result) (a .words) (a .pool .now) (take (a .n) (a .list .now)) full slots (c .before .before .before .before .before .smaller .result) (c .before .before .before .before .before .before .before .before .list .ensures) (c .before .before .before .before .before .before .listed-values .ensures w full) (c .before .before .before .before .before .before .before .before .list .kept .1 .1 .0) (c .before .before .before .before .before .smaller .ensures) (omega arith) (c .before .before .put-answer .ensures .0) (c .before .before .put-answer .ensures .1) (omega arith))
 
 pub list-frame-spec : {M : Type 1} → statement M
 list-frame-spec =
@@ -76,7 +76,7 @@ list-frame-spec =
     slice-aggregate-list-3
     list-requires
     listed-values-requires
-    at-most-requires
+    smaller-requires
     array-share-prefix-slots
     slice-aggregate-put-answer
     put-answer-requires

@@ -16,6 +16,7 @@ use Rattle.split.proofs.+entry_pass+split_page.Lts-entry_pass as entry-
 use Rattle.split.proofs.split_page.Reads as split-page
 use Rattle.split.proofs.split_page.Kinds as split-page-kinds
 use Rattle.split.proofs.+entry_pass+split_page.Lts-split_page as split-page-lts
+use Rattle.split.proofs.after_forced.Reads as after-forced-reads
 use Rattle.deal.proofs.copy_part.Reads as copy-part-reads
 use Rattle.deal.proofs.crosses.Reads as crosses-reads
 use Rattle.deal.proofs.deal_both.Reads as deal-both-reads
@@ -123,13 +124,13 @@ entry-pass-returns-2 : (t : ℕ) → entry-pass-lts.Need-returns-2 (entry-pass-c
 entry-pass-returns-2 t c = laws.entries-end _ _ _ _ _ _ _ _ _ _ _ _ (c .before .loop .inv .3) (c .loop-test .left)
 
 abbrev split-page-calls : ℕ → split-page-lts.Claims
-split-page-calls t = (word-reads.Asked, word-reads.Learnt, copy-part-reads.Asked, copy-part-reads.Learnt, part-points-reads.Asked, part-points-reads.Learnt, open-pages-reads.Asked, open-pages-reads.Learnt, entry-pass-below t, entry-pass.Post)
+split-page-calls t = (word-reads.Asked, word-reads.Learnt, after-forced-reads.Asked, after-forced-reads.Learnt, copy-part-reads.Asked, copy-part-reads.Learnt, part-points-reads.Asked, part-points-reads.Learnt, open-pages-reads.Asked, open-pages-reads.Learnt, entry-pass-below t, entry-pass.Post)
 
 split-page-word-requires : (t : ℕ) → split-page-lts.Need-word-requires (split-page-calls t) (split-page-at t) split-page.Post
 split-page-word-requires t c κs = search needs
 
-split-page-word-requires-2 : (t : ℕ) → split-page-lts.Need-word-requires-2 (split-page-calls t) (split-page-at t) split-page.Post
-split-page-word-requires-2 t c κs = search needs
+split-page-after-forced-requires : (t : ℕ) → split-page-lts.Need-after-forced-requires (split-page-calls t) (split-page-at t) split-page.Post
+split-page-after-forced-requires t c κs = search needs
 
 split-page-slice-aggregate-copy-part : (t : ℕ) → split-page-lts.Need-slice-aggregate-copy-part (split-page-calls t) (split-page-at t) split-page.Post
 split-page-slice-aggregate-copy-part t c = search needs
@@ -151,7 +152,7 @@ split-page-same-length t c = c .before .before .part-points .kept .0
 
 split-page-returns : (t : ℕ) → split-page-lts.Need-returns (split-page-calls t) (split-page-at t) split-page.Post
 split-page-returns t c = let a = (c .before .before .before .before .before .before .before .before .before .before .before .before .before .before .before .args) in
-    let e = (rw (c .before .before .before .before .before .before .before .copy-part .ensures, c .before .before .before .before .before .before .before .before .before .before .before .before .word .ensures .0, c .before .before .before .before .before .before .before .before .before .before .word2 .ensures .0) at (c .before .before .part-points .ensures .0)) in
+    let e = (rw (c .before .before .before .before .before .before .before .copy-part .ensures, c .before .before .before .before .before .before .before .before .before .before .before .before .word .ensures .0, c .before .before .before .before .before .before .before .before .before .before .after-forced .ensures .0) at (c .before .before .part-points .ensures .0)) in
     (e ∙ laws.split-points (a .n) (a .pool .now) (a .j) (c .before .before .before .before .before .before .before .before .before .before .before .before .before .before .before .pre .1 .1 .0) (a .k) (a .d) (a .x) (a .level) (c .before .before .before .before .before .if1 .taken), c .before .before .part-points .ensures .1)
 
 split-page-open-pages-requires : (t : ℕ) → split-page-lts.Need-open-pages-requires (split-page-calls t) (split-page-at t) split-page.Post
@@ -162,7 +163,7 @@ split-page-same-length-2 t c = c .before .before .before .open-pages .kept .0
 
 split-page-returns-2 : (t : ℕ) → split-page-lts.Need-returns-2 (split-page-calls t) (split-page-at t) split-page.Post
 split-page-returns-2 t c = let a = (c .before .before .before .before .before .before .before .before .before .before .before .before .before .before .before .args) in
-    let o = (rw (c .before .before .before .before .before .before .before .before .before .before .word2 .ensures .0) at (c .before .before .before .open-pages .ensures .0)) in
+    let o = (rw (c .before .before .before .before .before .before .before .before .before .before .after-forced .ensures .0) at (c .before .before .before .open-pages .ensures .0)) in
     (laws.regions-none _ _ _ _ (splitIn 32 (a .n) (a .k) (a .d) (a .x) (a .level - 1)) _ _ _ _ _ _ _ o (c .if2 .taken) ∙ laws.split-regions (a .n) (a .pool .now) (a .j) (c .before .before .before .before .before .before .before .before .before .before .before .before .before .before .before .pre .1 .1 .0) (a .k) (a .d) (a .x) (a .level) (a .level - 1) (omega (arith, c .before .before .before .before .before .if1 .left)), omega arith)
 
 split-page-sub-entry-pass : (t : ℕ) → split-page-lts.Need-sub-entry-pass (split-page-calls t) (split-page-at t) split-page.Post
@@ -179,7 +180,7 @@ split-page-same-length-3 t c = c .before .before .before .entry-pass .kept .0 �
 
 split-page-returns-3 : (t : ℕ) → split-page-lts.Need-returns-3 (split-page-calls t) (split-page-at t) split-page.Post
 split-page-returns-3 t c = let a = (c .before .before .before .before .before .before .before .before .before .before .before .before .before .before .before .before .before .before .before .before .before .args) in
-    let o = (rw (c .before .before .before .before .before .before .before .before .before .before .before .before .before .before .before .before .word2 .ensures .0) at (c .before .before .before .before .before .before .before .before .before .open-pages .ensures .0)) in
+    let o = (rw (c .before .before .before .before .before .before .before .before .before .before .before .before .before .before .before .before .after-forced .ensures .0) at (c .before .before .before .before .before .before .before .before .before .open-pages .ensures .0)) in
     let p = (rw (c .before .before .before .before .before .before .before .before .before .before .before .before .before .copy-part .ensures, c .before .before .before .before .before .before .before .before .before .before .before .before .before .before .before .before .before .before .word .ensures .0) at (c .before .before .before .entry-pass .ensures)) in
     (laws.regions-whole _ _ _ _ _ _ _ _ _ _ _ _ o (c .before .before .before .before .before .before .if2 .left) _ _ p (c .if3 .taken) ∙ laws.split-regions (a .n) (a .pool .now) (a .j) (c .before .before .before .before .before .before .before .before .before .before .before .before .before .before .before .before .before .before .before .before .before .pre .1 .1 .0) (a .k) (a .d) (a .x) (a .level) (a .level - 1) (omega (arith, c .before .before .before .before .before .before .before .before .before .before .before .if1 .left)), c .before .before .before .before .before .before .before .before .before .open-pages .ensures .1)
 
@@ -188,7 +189,7 @@ split-page-same-length-4 t c = c .before .before .before .entry-pass .kept .0 �
 
 split-page-returns-4 : (t : ℕ) → split-page-lts.Need-returns-4 (split-page-calls t) (split-page-at t) split-page.Post
 split-page-returns-4 t c = let a = (c .before .before .before .before .before .before .before .before .before .before .before .before .before .before .before .before .before .before .before .before .before .args) in
-    let o = (rw (c .before .before .before .before .before .before .before .before .before .before .before .before .before .before .before .before .word2 .ensures .0) at (c .before .before .before .before .before .before .before .before .before .open-pages .ensures .0)) in
+    let o = (rw (c .before .before .before .before .before .before .before .before .before .before .before .before .before .before .before .before .after-forced .ensures .0) at (c .before .before .before .before .before .before .before .before .before .open-pages .ensures .0)) in
     let p = (rw (c .before .before .before .before .before .before .before .before .before .before .before .before .before .copy-part .ensures, c .before .before .before .before .before .before .before .before .before .before .before .before .before .before .before .before .before .before .word .ensures .0) at (c .before .before .before .entry-pass .ensures)) in
     (laws.regions-short _ _ _ _ _ _ _ _ _ _ _ _ o (c .before .before .before .before .before .before .if2 .left) _ _ p (c .if3 .left) ∙ laws.split-regions (a .n) (a .pool .now) (a .j) (c .before .before .before .before .before .before .before .before .before .before .before .before .before .before .before .before .before .before .before .before .before .pre .1 .1 .0) (a .k) (a .d) (a .x) (a .level) (a .level - 1) (omega (arith, c .before .before .before .before .before .before .before .before .before .before .before .if1 .left)), omega arith)
 
@@ -218,22 +219,11 @@ pub +entry-pass+split-page-spec : {M : Type 1} → statement M
     (entry-pass-loop-again-2 t)
     (entry-pass-same-length-2 t)
     (entry-pass-returns-2 t))
-    λ t. split-page-lts.spec (
-      word-reads.Asked,
-      word-reads.Learnt,
-      copy-part-reads.Asked,
-      copy-part-reads.Learnt,
-      part-points-reads.Asked,
-      part-points-reads.Learnt,
-      open-pages-reads.Asked,
-      open-pages-reads.Learnt,
-      entry-pass-below t,
-      entry-pass.Post,
-    )
+    λ t. split-page-lts.spec (split-page-calls t)
     (split-page-at t)
     split-page.Post
     (split-page-word-requires t)
-    (split-page-word-requires-2 t)
+    (split-page-after-forced-requires t)
     (split-page-slice-aggregate-copy-part t)
     (split-page-mul-copy-part t)
     (split-page-copy-part-requires t)
