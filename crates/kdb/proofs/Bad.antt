@@ -23,6 +23,7 @@ use Rattle.kdb.proofs.Length.{four}
 use Rattle.kdb.proofs.Lists.{cases, and-l, is-true, is-false, some-many, length-only, gather-append}
 use Rattle.kdb.proofs.Pages.{word-at}
 use Rattle.kdb.proofs.Walk.{seek-all, find-all}
+use Rattle.kdb.proofs.Reading.{spots-only}
 use Rattle.kdb.proofs.Answers.{map-loc}
 use Rattle.kdb.proofs.Words.{kind, count, good-points, good-regions}
 
@@ -171,17 +172,6 @@ module _ (L : ℕ) (w : List ℕ) where
       go true i = followed v (below (e .child)) (through below v es) (ss (e .child)) (gather (λ e. ss (e .child)) (only (λ e. meets (e .box) v) es)) (h (e .child)) i
       go false i = followed v still (through below v es) [] (gather (λ e. ss (e .child)) (only (λ e. meets (e .box) v) es)) (record { stops = refl; reads = refl; finds = λ n. refl }) i
 
--- the records of a page, with their slots or without
-spots-in : (v : Box) (j i : ℕ) (rs : List Rec) → map (λ x. x .rec) (only (λ s. inWindow v (s .rec .key)) (spots j i rs)) ≡ only (λ r. inWindow v (r .key)) rs
-spots-in v j i [] = refl
-spots-in v j i (r ∷ rs) = go (inWindow v (r .key)) (spots-in v j (suc i) rs)
-  where
-    go : (t : Bool) → map (λ x. x .rec) (only (λ s. inWindow v (s .rec .key)) (spots j (suc i) rs)) ≡ only (λ r. inWindow v (r .key)) rs
-        → map (λ x. x .rec) (cond t (record { page = j; slot = i; rec = r } ∷ only (λ s. inWindow v (s .rec .key)) (spots j (suc i) rs)) (only (λ s. inWindow v (s .rec .key)) (spots j (suc i) rs)))
-        ≡ cond t (r ∷ only (λ r. inWindow v (r .key)) rs) (only (λ r. inWindow v (r .key)) rs)
-    go true e = ap (λ l. r ∷ l) e
-    go false e = e
-
 -- a region page has no records
 no-records : (v : Page) → T (isRegions v) → recsIn v ≡ []
 no-records blank t = absurd t
@@ -283,7 +273,7 @@ module _ (L : ℕ) (w : List ℕ) (room : 4 ≤ L) where
   toured : (v : Box) (n j : ℕ) → Toured L w v (tour L w v n j) (listFrom v n j)
   toured v zero j =
       at-points (λ t b. Toured L w v t (record { page = j; bad = b } ∷ [])) j _ _ _
-      (record { stops = refl; reads = refl; finds = λ n. spots-in v j 0 (recsIn (view L w j)) ∙ sym (append-nil (only (λ r. inWindow v (r .key)) (recsIn (view L w j)))) })
+      (record { stops = refl; reads = refl; finds = λ n. spots-only (inWindow v) j 0 (recsIn (view L w j)) ∙ sym (append-nil (only (λ r. inWindow v (r .key)) (recsIn (view L w j)))) })
       (λ e. record { stops = refl; reads = read-bad L w j e; finds = λ n. absurd (let z : _≡_ {A = ℕ} 0 1 = cc in omega arith) })
       (λ e. record { stops = refl; reads = read-none L w j e; finds = λ n. absurd (let z : _≡_ {A = ℕ} 0 1 = cc in omega arith) })
   toured v (suc n) j =

@@ -169,7 +169,7 @@ none-keyed b q (r ∷ l) h a =
     )
 
 -- the records of a page's spots
-spots-only : (g : Key → Bool) (j i : ℕ) (rs : List Rec) → map (λ x. x .rec) (only (λ s. g (s .rec .key)) (spots j i rs)) ≡ only (λ r. g (r .key)) rs
+pub spots-only : (g : Key → Bool) (j i : ℕ) (rs : List Rec) → map (λ x. x .rec) (only (λ s. g (s .rec .key)) (spots j i rs)) ≡ only (λ r. g (r .key)) rs
 spots-only g j i [] = refl
 spots-only g j i (r ∷ rs) =
     cases (λ b. map (λ x. x .rec) (cond b (record { page = j; slot = i; rec = r } ∷ only (λ s. g (s .rec .key)) (spots j (suc i) rs)) (only (λ s. g (s .rec .key)) (spots j (suc i) rs)))
