@@ -1,20 +1,19 @@
 // The six calls for C and Rust, as include/korytanka.h has them. No call asks anything of its caller.
-use index::Checked;
-use index::Formatted;
-use index::Found;
-use index::Listed;
-use index::Placed;
 use index::Removed;
-use index::check;
-use index::find;
 use index::format;
-use index::list;
 use index::place;
 use index::remove;
+use opening::Finished;
+use opening::number;
+use query::Found;
+use query::Listed;
+use query::check;
+use query::find;
+use query::list;
 ghost use mathlib.Core.List.{[], _∷_};
 ghost use mathlib.Core.Path.{_≡_};
-ghost use Rattle.kdb.specs.Calls.{format, check, place, remove, find, list, Promise};
-ghost use Rattle.index.specs.Answers.{alone, with, beside};
+ghost use Rattle.kdb.specs.Calls.{format, check, place, remove, find, list, Buffers, alone, working, answering, Promise};
+ghost use Rattle.opening.specs.Opens.{finishedAs};
 ghost use Rattle.export.specs.Crossing.{crossed};
 
 // A remove's number and location.
@@ -70,26 +69,28 @@ fn not_listed(number: u32) -> Listing
     }
 }
 
+// The number of an answer without values.
+fn told(f: Finished) -> u32
+    ensures { λ n. ⌜ ((b : Buffers) → crossed n [] b ≡ finishedAs f b) ⌝ }
+{
+    match f {
+        Finished::Done => 0,
+        Finished::Refused(r) => number(r),
+    }
+}
+
 #[no_mangle]
 pub extern "C" fn korytanka_format(pool: &mut [u32], k: u32) -> u32
     ensures { λ r. ⌜ Promise (now (pool .entry)) (format k) (crossed r [] (alone (now (pool .exit)))) ⌝ }
 {
-    match format(pool, k as usize) {
-        Formatted::Done => 0,
-        Formatted::NotPages => 1,
-        Formatted::NotDomains => 2,
-    }
+    told(format(pool, k as usize))
 }
 
 #[no_mangle]
 pub extern "C" fn korytanka_check(pool: &[u32]) -> u32
     ensures { λ r. ⌜ Promise (now (pool .entry)) check (crossed r [] (alone (now (pool .entry)))) ⌝ }
 {
-    match check(pool) {
-        Checked::Sound => 0,
-        Checked::NotPages => 1,
-        Checked::NotSound => 6,
-    }
+    told(check(pool))
 }
 
 #[no_mangle]
@@ -99,18 +100,9 @@ pub extern "C" fn korytanka_place(
     point: &[u32],
     location: u32,
 ) -> u32
-    ensures { λ r. ⌜ Promise (now (pool .entry)) (place (now (work .entry)) (now (point .entry)) location) (crossed r [] (beside (now (pool .exit)) (now (work .exit)))) ⌝ }
+    ensures { λ r. ⌜ Promise (now (pool .entry)) (place (now (work .entry)) (now (point .entry)) location) (crossed r [] (working (now (work .exit)) (now (pool .exit)))) ⌝ }
 {
-    match place(pool, work, point, location) {
-        Placed::Done => 0,
-        Placed::NotPages => 1,
-        Placed::BadHeader => 6,
-        Placed::NotWords => 3,
-        Placed::Infinite => 4,
-        Placed::NotSound => 6,
-        Placed::Present => 7,
-        Placed::NoPage => 9,
-    }
+    told(place(pool, work, point, location))
 }
 
 #[no_mangle]
@@ -122,12 +114,7 @@ pub extern "C" fn korytanka_remove(pool: &mut [u32], point: &[u32]) -> Removal
             number: 0,
             location: location as u32,
         },
-        Removed::NotPages => not_removed(1),
-        Removed::BadHeader => not_removed(6),
-        Removed::NotWords => not_removed(3),
-        Removed::Infinite => not_removed(4),
-        Removed::NotSound => not_removed(6),
-        Removed::Absent => not_removed(8),
+        Removed::Refused(r) => not_removed(number(r)),
     }
 }
 
@@ -141,18 +128,13 @@ pub extern "C" fn korytanka_find(pool: &[u32], point: &[u32]) -> Finding
             location: location as u32,
             reads: reads as u32,
         },
-        Found::NotPages => not_found(1),
-        Found::BadHeader => not_found(6),
-        Found::NotWords => not_found(3),
-        Found::Infinite => not_found(4),
-        Found::BadPage => not_found(6),
-        Found::Absent => not_found(8),
+        Found::Refused(r) => not_found(number(r)),
     }
 }
 
 #[no_mangle]
 pub extern "C" fn korytanka_list(pool: &[u32], window: &[u32], answer: &mut [u32]) -> Listing
-    ensures { λ r. ⌜ Promise (now (pool .entry)) (list (now (window .entry)) (now (answer .entry))) (crossed (r .number) (r .total ∷ r .reads ∷ []) (with (now (pool .entry)) (now (answer .exit)))) ⌝ }
+    ensures { λ r. ⌜ Promise (now (pool .entry)) (list (now (window .entry)) (now (answer .entry))) (crossed (r .number) (r .total ∷ r .reads ∷ []) (answering (now (answer .exit)) (now (pool .entry)))) ⌝ }
 {
     match list(pool, window, answer) {
         Listed::Counted(total, reads) => Listing {
@@ -160,11 +142,6 @@ pub extern "C" fn korytanka_list(pool: &[u32], window: &[u32], answer: &mut [u32
             total: total as u32,
             reads: reads as u32,
         },
-        Listed::NotPages => not_listed(1),
-        Listed::BadHeader => not_listed(6),
-        Listed::NotWords => not_listed(3),
-        Listed::Infinite => not_listed(4),
-        Listed::Crossed => not_listed(5),
-        Listed::BadPage => not_listed(6),
+        Listed::Refused(r) => not_listed(number(r)),
     }
 }

@@ -75,6 +75,9 @@ some-number Present = tt
 some-number Absent = tt
 some-number NoFreePage = tt
 
+pub not-0 : (r : Refusal) → numberOf r ≡ 0 → ⊥
+not-0 r e = T-not (eqb 0 (numberOf r)) (some-number r) (of-true _ (eq-eqb 0 (numberOf r) (sym e)))
+
 never-0 : (ts : List Test) → T (avoids 0 ts)
 never-0 [] = tt
 never-0 (t ∷ ts) = rw (is-true (not (eqb 0 (numberOf (t .refusal)))) (some-number (t .refusal))) (never-0 ts)
