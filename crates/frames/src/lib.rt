@@ -1,7 +1,7 @@
 // A line of bytes to its answer, and a stream of bytes to its output.
+use answers::no_frame;
 use replies::Said;
 use replies::frame;
-use replies::no_frame;
 use text::decode;
 use words::smaller;
 ghost use mathlib.Core.Path.{_≡_};

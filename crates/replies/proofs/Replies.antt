@@ -1,25 +1,18 @@
 -- A frame's bytes by their first byte, and the replies that stand in the buffers.
-use mathlib.Core.Bool.{cond}
-use mathlib.Core.List.{List, [], _∷_, _++_, append-nil}
+use mathlib.Core.List.{List, [], _∷_, _++_}
 use mathlib.Core.Option.{none, some}
 use mathlib.Core.Path.{_≡_, refl, sym, ap, ap₂, _∙_}
-use Prim.Native.Nat.{ℕ, zero, suc, _+_, _-_, _<_, _≤_, min}
+use Prim.Native.Nat.{ℕ, suc, _+_, _-_, _<_, _≤_, min}
 use native.Mathlib.Omega.{arith}
-use lib.Dec.{leb, ltb, leb→le, nleb→lt}
-use lib.ListN.{length, getD, take, drop, set, take-append-drop}
-use lib.Seq.{sets, take-all, take-at, take-length, take-nil, length-take-le}
-use borrow.Author.Tests.{le-leb, lt-leb, lt-ltb, ne-eqb}
-use Rattle.kdb.specs.Lists.{gather}
-use Rattle.kdb.specs.Frames.{hex, Frame, unknown, withWords, wordsOf, frameOf, framed, Reply, refusal}
+use lib.Dec.{leb, leb→le, nleb→lt}
+use lib.ListN.{length, getD, take, drop, take-append-drop}
+use lib.Seq.{sets, take-all, take-at, take-length, length-take-le}
+use borrow.Author.Tests.{le-leb, lt-leb, ne-eqb}
+use Rattle.kdb.specs.Frames.{Frame, unknown, withWords, wordsOf, frameOf, framed, Reply, refusal}
 use Rattle.kdb.proofs.Lists.{bool, sets-front}
-use Rattle.text.specs.Text.{counted, Written}
-use Rattle.text.proofs.Write.{written-then, written-feed}
-use Rattle.replies.specs.Reply.{valuesOf, textOf, Replied, Unframed}
-
--- the number 255 alone is FF
-pub ff : textOf 255 [] [] ≡ 70 ∷ 70 ∷ 10 ∷ []
-unfolding textOf
-ff = refl
+use Rattle.text.specs.Text.{counted}
+use Rattle.answers.specs.Spoken.{Unframed}
+use Rattle.replies.specs.Reply.{Replied}
 
 -- words laid over the front of a buffer
 pub laid : (n : ℕ) (buffer ws : List ℕ) → length ws ≡ length (take n buffer) → ws ++ drop n buffer ≡ sets buffer 0 ws
@@ -73,18 +66,3 @@ take-least n l =
     bool (leb n (length l))
     (λ t. let e : min n (length l) ≡ n = omega (arith, leb→le n (length l) t) in rw e)
     (λ t. let e : min n (length l) ≡ length l = omega (arith, nleb→lt n (length l) t) in rw e (take-all n l (omega (arith, nleb→lt n (length l) t)) ∙ sym (take-length l)))
-
--- the values, each if it is there
-gather-values : (g : ℕ → List ℕ) (count a b : ℕ) → gather g (valuesOf count a b) ≡ cond (ltb 0 count) (g a) [] ++ cond (ltb 1 count) (g b) []
-gather-values g zero a b = refl
-gather-values g (suc zero) a b = refl
-gather-values g (suc (suc n)) a b =
-    rw (lt-ltb 0 (suc (suc n)) (omega arith), lt-ltb 1 (suc (suc n)) (omega arith), take-nil n, append-nil (g b))
-
--- the parts of an answer, one after the other
-pub answer-parts : (number count first second : ℕ) (found : List ℕ) {o p q r s : List ℕ} {at i j k l : ℕ}
-    → Written o at (hex 2 number) p i → Written p i (cond (ltb 0 count) (hex 8 first) []) q j → Written q j (cond (ltb 1 count) (hex 8 second) []) r k
-    → Written r k (gather (hex 8) found) s l → Written o at (textOf number (valuesOf count first second) found) (set s l 10) (l + 1)
-unfolding textOf
-answer-parts number count first second found {o} {p} {q} {r} {s} {at} {i} {j} {k} {l} a b c d =
-    rw (gather-values (hex 8) count first second) (written-then a (written-then (written-then b c) (written-then d (written-feed s l))))

@@ -1,27 +1,12 @@
 -- What the code ensures of a frame's reply: its text, the pool in its buffer, and the work buffer.
-use mathlib.Core.List.{List, [], _∷_, _++_}
+use mathlib.Core.List.{List}
 use mathlib.Core.Path.{_≡_}
 use Prim.Native.Nat.{ℕ, _+_, _≤_, _^_}
-use lib.ListN.{length, getD, take}
+use lib.ListN.{length, take}
 use lib.Seq.{sets}
-use Rattle.kdb.specs.Lists.{gather}
-use Rattle.kdb.specs.Calls.{remove, find, list, Outcome, outcome}
-use Rattle.kdb.specs.Frames.{hex, Frame, new, call, unknown, slots, Reply}
+use Rattle.kdb.specs.Calls.{remove, find, list, outcome}
+use Rattle.kdb.specs.Frames.{Frame, new, call, unknown, slots, Reply}
 use Rattle.text.specs.Text.{Written}
-
--- the first of two values, as many as are counted
-abbrev pub valuesOf : ℕ → ℕ → ℕ → List ℕ
-valuesOf count a b = take count (a ∷ b ∷ [])
-
--- the text of an answer: the number, the values, the locations
-unfoldable pub textOf : ℕ → List ℕ → List ℕ → List ℕ
-textOf number values found = hex 2 number ++ (gather (hex 8) values ++ (gather (hex 8) found ++ (10 ∷ [])))
-
--- a number and values are an outcome's; with no values the first is 0
-pub record Spoken (o : Outcome) (number count first second : ℕ) : Type 0 where
-  pub number-is : number ≡ o .number
-  pub values-are : valuesOf count first second ≡ o .values
-  pub first-is : first ≡ getD (o .values) 0 0
 
 -- what the frames of words ask
 abbrev pub removeOf : List ℕ → Frame
@@ -53,8 +38,3 @@ pub record Replied (r : Reply) (pool out : List ℕ) (at : ℕ) (pool′ out′ 
   pub text : Written out at (r .text) out′ at′
   pub room : at′ ≤ at + 531
   pub within : words ≤ 16384
-
--- FF is written
-pub record Unframed (out : List ℕ) (at : ℕ) (out′ : List ℕ) (at′ : ℕ) : Type 0 where
-  pub text : Written out at (70 ∷ 70 ∷ 10 ∷ []) out′ at′
-  pub room : at′ ≤ at + 531

@@ -1,173 +1,30 @@
 // A frame's bytes to its reply: the first byte decides which call is made, and its outcome is written as text.
-use index::Formatted;
-use index::Found;
-use index::Listed;
-use index::Placed;
-use index::Removed;
-use index::find;
+use answers::finished_values;
+use answers::found_values;
+use answers::listed_values;
+use answers::no_frame;
+use answers::put_answer;
+use answers::refuse;
+use answers::removed_values;
 use index::format;
 use index::place;
 use index::remove;
+use query::find;
 use text::byte_at;
-use text::put;
-use text::put_hex;
-use text::put_value;
-use text::put_words;
 use text::words_of;
 use words::smaller;
 ghost use mathlib.Core.Path.{_≡_};
-ghost use mathlib.Core.List.{List, []};
 ghost use mathlib.Core.Option.{some};
-ghost use Prim.Native.Nat.{ℕ, _+_, _≤_, _^_};
+ghost use Prim.Native.Nat.{_+_, _≤_, _^_};
 ghost use lib.ListN.{length, take};
 ghost use Rattle.kdb.specs.Frames.{withWords, newOf, placeOf, framed, obey};
-ghost use Rattle.index.specs.Answers.{formattedAs, placedAs, removedAs, foundAs, listedAs};
-ghost use Rattle.text.specs.Text.{counted, Written};
-ghost use Rattle.replies.specs.Reply.{valuesOf, textOf, removeOf, findOf, listOf, workAfter, Sized, Replied, Unframed, Spoken};
-
-// The number of an answer and its values: how many of the two there are. With none the first is 0.
-struct Values {
-    number: usize,
-    count: usize,
-    first: usize,
-    second: usize,
-}
-
-// A whole answer: the number, the values, the locations and a line feed.
-fn put_answer(out: &mut [u8], at: usize, v: Values, found: &[u32]) -> usize
-    requires { ⌜ (at + 531 ≤ 2 ^ 63) × (length (now found) ≤ 64) ⌝ }
-    ensures { λ r. ⌜ Written (now (out .entry)) at (textOf (v .number) (valuesOf (v .count) (v .first) (v .second)) (now (found .entry)))
-        (now (out .exit)) r
-        × (r ≤ at + 531) ⌝ }
-{
-    let a = put_hex(out, at, 2, v.number);
-    let b = put_value(out, a, 0 < v.count, v.first);
-    let c = put_value(out, b, 1 < v.count, v.second);
-    let d = put_words(out, c, found);
-    put(out, d, 10);
-    d + 1
-}
+ghost use Rattle.text.specs.Text.{counted};
+ghost use Rattle.replies.specs.Reply.{removeOf, findOf, listOf, workAfter, Sized, Replied};
 
 // The pool's words after a line, and the place in the output that follows its answer.
 pub struct Said {
     pub words: usize,
     pub at: usize,
-}
-
-// A refusal has no values.
-fn refused(number: usize) -> Values
-    ensures { λ r. ⌜ (r .number ≡ number) × ((r .count ≡ 0) × (r .first ≡ 0)) ⌝ }
-{
-    Values {
-        number: number,
-        count: 0,
-        first: 0,
-        second: 0,
-    }
-}
-
-// A refusal's answer: the number alone.
-fn refuse(out: &mut [u8], at: usize, number: usize) -> usize
-    requires { ⌜ at + 531 ≤ 2 ^ 63 ⌝ }
-    ensures { λ r. ⌜ Written (now (out .entry)) at (textOf number [] []) (now (out .exit)) r × (r ≤ at + 531) ⌝ }
-{
-    let none = [0u32; 1];
-    put_answer(out, at, refused(number), &none[..0])
-}
-
-// No frame answers FF.
-pub fn no_frame(out: &mut [u8], at: usize) -> usize
-    requires { ⌜ at + 531 ≤ 2 ^ 63 ⌝ }
-    ensures { λ r. ⌜ Unframed (now (out .entry)) at (now (out .exit)) r ⌝ }
-{
-    refuse(out, at, 255)
-}
-
-// The number of a format's answer.
-fn formatted_values(f: Formatted) -> Values
-    ensures { λ r. ⌜ ((w : List ℕ) → Spoken (formattedAs f w) (r .number) (r .count) (r .first) (r .second)) ⌝ }
-{
-    match f {
-        Formatted::Done => refused(0),
-        Formatted::NotPages => refused(1),
-        Formatted::NotDomains => refused(2),
-    }
-}
-
-// The number and the values of a find's answer: location and pages read.
-fn found_values(f: Found) -> Values
-    ensures { λ r. ⌜ ((w : List ℕ) → Spoken (foundAs f w) (r .number) (r .count) (r .first) (r .second)) ⌝ }
-{
-    match f {
-        Found::At(a, b) => Values {
-            number: 0,
-            count: 2,
-            first: a,
-            second: b,
-        },
-        Found::NotPages => refused(1),
-        Found::BadHeader => refused(6),
-        Found::NotWords => refused(3),
-        Found::Infinite => refused(4),
-        Found::BadPage => refused(6),
-        Found::Absent => refused(8),
-    }
-}
-
-// The number and the values of a list's answer: total and pages read.
-fn listed_values(f: Listed) -> Values
-    ensures { λ r. ⌜ ((w slots : List ℕ) → Spoken (listedAs f w slots) (r .number) (r .count) (r .first) (r .second)) ⌝ }
-{
-    match f {
-        Listed::Counted(a, b) => Values {
-            number: 0,
-            count: 2,
-            first: a,
-            second: b,
-        },
-        Listed::NotPages => refused(1),
-        Listed::BadHeader => refused(6),
-        Listed::NotWords => refused(3),
-        Listed::Infinite => refused(4),
-        Listed::Crossed => refused(5),
-        Listed::BadPage => refused(6),
-    }
-}
-
-// The number of a place's answer.
-fn placed_values(f: Placed) -> Values
-    ensures { λ r. ⌜ ((w work : List ℕ) → Spoken (placedAs f w work) (r .number) (r .count) (r .first) (r .second)) ⌝ }
-{
-    match f {
-        Placed::Done => refused(0),
-        Placed::NotPages => refused(1),
-        Placed::BadHeader => refused(6),
-        Placed::NotWords => refused(3),
-        Placed::Infinite => refused(4),
-        Placed::NotSound => refused(6),
-        Placed::Present => refused(7),
-        Placed::NoPage => refused(9),
-    }
-}
-
-// The number and the value of a remove's answer: the location.
-fn removed_values(f: Removed) -> Values
-    ensures { λ r. ⌜ ((w : List ℕ) → Spoken (removedAs f w) (r .number) (r .count) (r .first) (r .second)) ⌝ }
-{
-    match f {
-        Removed::At(a) => Values {
-            number: 0,
-            count: 1,
-            first: a,
-            second: 0,
-        },
-        Removed::NotPages => refused(1),
-        Removed::BadHeader => refused(6),
-        Removed::NotWords => refused(3),
-        Removed::Infinite => refused(4),
-        Removed::NotSound => refused(6),
-        Removed::Absent => refused(8),
-    }
 }
 
 // 00: K, then N in 2 bytes, high byte first.
@@ -193,7 +50,7 @@ fn new_frame(bytes: &[u8], pool: &mut [u32], words: usize, out: &mut [u8], at: u
         };
     }
     let size = 32 * n;
-    let v = formatted_values(format(&mut pool[..size], k));
+    let v = finished_values(format(&mut pool[..size], k));
     let number = v.number;
     let none = [0u32; 1];
     let next = put_answer(out, at, v, &none[..0]);
@@ -233,7 +90,7 @@ fn place_frame(
     }
     let last = n - 1;
     let location = list[last];
-    let v = placed_values(place(
+    let v = finished_values(place(
         &mut pool[..words],
         &mut work[..words],
         &list[..last],
@@ -302,7 +159,7 @@ fn list_frame(
         return no_frame(out, at);
     }
     let mut slots = [0u32; 64];
-    let v = listed_values(index::list(&pool[..words], &list[..n], &mut slots));
+    let v = listed_values(query::list(&pool[..words], &list[..n], &mut slots));
     let total = v.first;
     let shown = smaller(total, 64);
     put_answer(out, at, v, &slots[..shown])

@@ -1,19 +1,20 @@
 -- `replies::find_frame` meets its contract: no frame, or the outcome of find.
-use Rattle.replies.proofs.Answers.{find-replied}
+use Rattle.replies.proofs.Calls.{find-replied}
 use Rattle.replies.proofs.Replies.{unframed, counted-some, counted-none}
 use lib.Seq.{length-take-le}
 use lib.ListN.{take}
 use mathlib.Core.Path.{sym}
+use Rattle.kdb.specs.Calls.{alone}
 use borrow.Author.Needs.{needs}
 use native.Mathlib.Omega.{arith}
 use Rattle.replies.proofs.find_frame.Statement.{statement}
 use Rattle.replies.proofs.find_frame.Tie as tie
 use Rattle.replies.proofs.find_frame.Reads as reads
 use Rattle.replies.proofs.find_frame.Lts as lts
-use Rattle.replies.proofs.found_values.Reads as found-values-reads
-use Rattle.replies.proofs.no_frame.Reads as no-frame-reads
-use Rattle.replies.proofs.put_answer.Reads as put-answer-reads
-use Rattle.index.proofs.find.Reads as find-reads
+use Rattle.answers.proofs.found_values.Reads as found-values-reads
+use Rattle.answers.proofs.no_frame.Reads as no-frame-reads
+use Rattle.answers.proofs.put_answer.Reads as put-answer-reads
+use Rattle.query.proofs.find.Reads as find-reads
 
 no-frame-requires : tie.Need-no-frame-requires
 no-frame-requires c κs = search needs
@@ -53,7 +54,7 @@ returns-2 : tie.Need-returns-2
 returns-2 c = let a = c .before .before .before .before .before .before .before .before .before .before .before .before .before .args in
     let w = take (a .words) (a .pool .now) in
     rw (counted-some 16 (a .n) (a .list .now) (c .before .before .before .before .before .before .before .before .before .if1 .left))
-    (find-replied (c .before .before .before .before .before .before .find .result) (a .words) (a .pool .now) (take (a .n) (a .list .now)) (c .before .before .before .before .before .before .find .ensures) (c .before .before .before .before .before .found-values .ensures w) (omega arith) (c .before .before .put-answer .ensures .0) (c .before .before .put-answer .ensures .1) (omega arith))
+    (find-replied (c .before .before .before .before .before .before .find .result) (a .words) (a .pool .now) (take (a .n) (a .list .now)) (c .before .before .before .before .before .before .find .ensures) (c .before .before .before .before .before .found-values .ensures (alone w)) (omega arith) (c .before .before .put-answer .ensures .0) (c .before .before .put-answer .ensures .1) (omega arith))
 
 pub find-frame-spec : {M : Type 1} → statement M
 find-frame-spec =

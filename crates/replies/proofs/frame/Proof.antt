@@ -1,9 +1,10 @@
 -- `replies::frame` meets its contract: the first byte decides, and each case is its function's reply.
-use Rattle.replies.proofs.Replies.{ff, unframed, frame-empty, frame-first, frame-words, frame-other}
+use Rattle.answers.proofs.Answers.{ff}
+use Rattle.replies.proofs.Replies.{unframed, frame-empty, frame-first, frame-words, frame-other}
 use Rattle.replies.specs.Reply.{removeOf, findOf, listOf}
 use Rattle.kdb.specs.Frames.{placeOf}
 use mathlib.Core.Path.{refl}
-use Rattle.replies.proofs.Answers.{unplaced}
+use Rattle.replies.proofs.Calls.{unplaced}
 use lib.ListN.{take}
 use borrow.Author.Needs.{needs}
 use native.Mathlib.Omega.{arith}
@@ -14,9 +15,9 @@ use Rattle.replies.proofs.frame.Lts as lts
 use Rattle.replies.proofs.find_frame.Reads as find-frame-reads
 use Rattle.replies.proofs.list_frame.Reads as list-frame-reads
 use Rattle.replies.proofs.new_frame.Reads as new-frame-reads
-use Rattle.replies.proofs.no_frame.Reads as no-frame-reads
+use Rattle.answers.proofs.no_frame.Reads as no-frame-reads
 use Rattle.replies.proofs.place_frame.Reads as place-frame-reads
-use Rattle.replies.proofs.refuse.Reads as refuse-reads
+use Rattle.answers.proofs.refuse.Reads as refuse-reads
 use Rattle.replies.proofs.remove_frame.Reads as remove-frame-reads
 use Rattle.text.proofs.words_of.Reads as words-of-reads
 

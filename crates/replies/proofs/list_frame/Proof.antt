@@ -1,10 +1,11 @@
 -- `replies::list_frame` meets its contract: no frame, or the outcome of list with the locations that its slots took.
 use lib.ListN.{take, length-take}
-use Rattle.replies.proofs.Answers.{list-replied}
+use Rattle.replies.proofs.Calls.{list-replied}
 use Rattle.kdb.specs.Frames.{slots}
 use Rattle.replies.proofs.Replies.{unframed, counted-some, counted-none}
 use lib.Seq.{length-take-le}
 use mathlib.Core.Path.{sym}
+use Rattle.kdb.specs.Calls.{answering}
 use borrow.Author.Needs.{needs}
 use native.Mathlib.Omega.{arith}
 use Rattle.replies.proofs.list_frame.Statement.{statement}
@@ -12,10 +13,10 @@ use Rattle.replies.proofs.list_frame.Tie as tie
 use Rattle.replies.proofs.list_frame.Reads as reads
 use Rattle.replies.proofs.list_frame.Lts as lts
 use Rattle.words.proofs.smaller.Reads as smaller-reads
-use Rattle.replies.proofs.listed_values.Reads as listed-values-reads
-use Rattle.replies.proofs.no_frame.Reads as no-frame-reads
-use Rattle.replies.proofs.put_answer.Reads as put-answer-reads
-use Rattle.index.proofs.list.Reads as list-reads
+use Rattle.answers.proofs.listed_values.Reads as listed-values-reads
+use Rattle.answers.proofs.no_frame.Reads as no-frame-reads
+use Rattle.answers.proofs.put_answer.Reads as put-answer-reads
+use Rattle.query.proofs.list.Reads as list-reads
 
 no-frame-requires : tie.Need-no-frame-requires
 no-frame-requires c κs = search needs
@@ -62,7 +63,7 @@ returns-2 c = let a = c .before .before .before .before .before .before .before 
     let w = take (a .words) (a .pool .now) in
     let full = c .before .before .before .before .before .before .before .before .list .last .1 .1 .0 in
     rw (counted-some 16 (a .n) (a .list .now) (c .before .before .before .before .before .before .before .before .before .before .before .before .if1 .left))
-    (list-replied (c .before .before .before .before .before .before .before .before .list .result) (a .words) (a .pool .now) (take (a .n) (a .list .now)) full slots (c .before .before .before .before .before .smaller .result) (c .before .before .before .before .before .before .before .before .list .ensures) (c .before .before .before .before .before .before .listed-values .ensures w full) (c .before .before .before .before .before .before .before .before .list .kept .1 .1 .0) (c .before .before .before .before .before .smaller .ensures) (omega arith) (c .before .before .put-answer .ensures .0) (c .before .before .put-answer .ensures .1) (omega arith))
+    (list-replied (c .before .before .before .before .before .before .before .before .list .result) (a .words) (a .pool .now) (take (a .n) (a .list .now)) full slots (c .before .before .before .before .before .smaller .result) (c .before .before .before .before .before .before .before .before .list .ensures) (c .before .before .before .before .before .before .listed-values .ensures (answering full w)) (c .before .before .before .before .before .before .before .before .list .kept .1 .1 .0) (c .before .before .before .before .before .smaller .ensures) (omega arith) (c .before .before .put-answer .ensures .0) (c .before .before .put-answer .ensures .1) (omega arith))
 
 pub list-frame-spec : {M : Type 1} → statement M
 list-frame-spec =

@@ -1,11 +1,12 @@
 -- `replies::new_frame` meets its contract: no frame, too many pages, and format's outcome, by which the pool is the new one or the earlier.
 use Rattle.kdb.proofs.Frames.{new-other}
-use Rattle.replies.proofs.Answers.{new-three, new-big, new-done, new-refused}
+use Rattle.replies.proofs.Calls.{new-three, new-big, new-done, new-refused}
 use Rattle.replies.proofs.Replies.{unframed}
 use lib.Seq.{length-take-le}
 use Prim.Native.Nat.{_+_, _*_}
 use lib.ListN.{take}
 use mathlib.Core.Path.{refl, sym}
+use Rattle.kdb.specs.Calls.{alone}
 use borrow.Author.Needs.{needs}
 use native.Mathlib.Omega.{arith}
 use Rattle.replies.proofs.new_frame.Statement.{statement}
@@ -13,10 +14,10 @@ use Rattle.replies.proofs.new_frame.Tie as tie
 use Rattle.replies.proofs.new_frame.Reads as reads
 use Rattle.replies.proofs.new_frame.Lts as lts
 use Rattle.text.proofs.byte_at.Reads as byte-at-reads
-use Rattle.replies.proofs.formatted_values.Reads as formatted-values-reads
-use Rattle.replies.proofs.no_frame.Reads as no-frame-reads
-use Rattle.replies.proofs.put_answer.Reads as put-answer-reads
-use Rattle.replies.proofs.refuse.Reads as refuse-reads
+use Rattle.answers.proofs.finished_values.Reads as finished-values-reads
+use Rattle.answers.proofs.no_frame.Reads as no-frame-reads
+use Rattle.answers.proofs.put_answer.Reads as put-answer-reads
+use Rattle.answers.proofs.refuse.Reads as refuse-reads
 use Rattle.index.proofs.format.Reads as format-reads
 
 no-frame-requires : tie.Need-no-frame-requires
@@ -76,8 +77,8 @@ slice-aggregate-format c = sym (length-take-le _ _ (omega arith))
 format-requires : tie.Need-format-requires
 format-requires c κs = search needs
 
-formatted-values-requires : tie.Need-formatted-values-requires
-formatted-values-requires c κs = search needs
+finished-values-requires : tie.Need-finished-values-requires
+finished-values-requires c κs = search needs
 
 array-share-prefix-none : tie.Need-array-share-prefix-none
 array-share-prefix-none c = search needs
@@ -98,7 +99,7 @@ returns-3 : tie.Need-returns-3
 returns-3 c = let a = c .before .before .before .before .before .before .before .before .before .before .before .before .before .before .before .before .before .before .before .args in
     let part = c .before .before .before .before .before .before .before .before .before .format .last .0 in
     rw (new-three (a .bytes .now) (c .before .before .before .before .before .before .before .before .before .before .before .before .before .before .before .if1 .left), ← c .before .before .before .before .before .before .before .before .before .before .before .before .before .before .byte-at .ensures .0, ← c .before .before .before .before .before .before .before .before .before .before .before .before .before .byte-at2 .ensures .0, ← c .before .before .before .before .before .before .before .before .before .before .before .before .byte-at3 .ensures .0)
-    (new-done (c .before .before .before .before .before .before .before .before .before .format .result) (take (a .words) (a .pool .now)) (a .pool .now) part _ _ (omega arith) (c .before .before .before .before .before .before .before .before .before .format .ensures) (c .before .before .before .before .before .before .formatted-values .ensures part) (c .if3 .taken) (c .before .before .before .before .before .before .before .before .before .format .kept .0) (c .before .before .before .put-answer .ensures .0) (c .before .before .before .put-answer .ensures .1) (omega arith))
+    (new-done (c .before .before .before .before .before .before .before .before .before .format .result) (take (a .words) (a .pool .now)) (a .pool .now) part _ _ (omega arith) (c .before .before .before .before .before .before .before .before .before .format .ensures) (c .before .before .before .before .before .before .finished-values .ensures (alone part)) (c .if3 .taken) (c .before .before .before .before .before .before .before .before .before .format .kept .0) (c .before .before .before .put-answer .ensures .0) (c .before .before .before .put-answer .ensures .1) (omega arith))
 
 same-length-5 : tie.Need-same-length-5
 same-length-5 c = search needs
@@ -110,7 +111,7 @@ returns-4 : tie.Need-returns-4
 returns-4 c = let a = c .before .before .before .before .before .before .before .before .before .before .before .before .before .before .before .before .before .before .before .args in
     let part = c .before .before .before .before .before .before .before .before .before .format .last .0 in
     rw (new-three (a .bytes .now) (c .before .before .before .before .before .before .before .before .before .before .before .before .before .before .before .if1 .left), ← c .before .before .before .before .before .before .before .before .before .before .before .before .before .before .byte-at .ensures .0, ← c .before .before .before .before .before .before .before .before .before .before .before .before .before .byte-at2 .ensures .0, ← c .before .before .before .before .before .before .before .before .before .before .before .before .byte-at3 .ensures .0)
-    (new-refused (c .before .before .before .before .before .before .before .before .before .format .result) (take (a .words) (a .pool .now)) (a .pool .now) part (c .before .before .before .before .before .before .before .before .before .before .before .before .before .before .byte-at .result) (256 * c .before .before .before .before .before .before .before .before .before .before .before .before .before .byte-at2 .result + c .before .before .before .before .before .before .before .before .before .before .before .before .byte-at3 .result) (omega arith) (c .before .before .before .before .before .before .before .before .before .format .ensures) (a .words) (c .before .before .before .before .before .before .formatted-values .ensures part) (c .if3 .left) (c .before .before .before .put-answer .ensures .0) (c .before .before .before .put-answer .ensures .1) (omega arith) (omega arith) refl)
+    (new-refused (c .before .before .before .before .before .before .before .before .before .format .result) (take (a .words) (a .pool .now)) (a .pool .now) part (c .before .before .before .before .before .before .before .before .before .before .before .before .before .before .byte-at .result) (256 * c .before .before .before .before .before .before .before .before .before .before .before .before .before .byte-at2 .result + c .before .before .before .before .before .before .before .before .before .before .before .before .byte-at3 .result) (omega arith) (c .before .before .before .before .before .before .before .before .before .format .ensures) (a .words) (c .before .before .before .before .before .before .finished-values .ensures (alone part)) (c .if3 .left) (c .before .before .before .put-answer .ensures .0) (c .before .before .before .put-answer .ensures .1) (omega arith) (omega arith) refl)
 
 pub new-frame-spec : {M : Type 1} → statement M
 new-frame-spec =
@@ -134,7 +135,7 @@ new-frame-spec =
     slice-relend-prefix-format
     slice-aggregate-format
     format-requires
-    formatted-values-requires
+    finished-values-requires
     array-share-prefix-none
     slice-aggregate-put-answer
     put-answer-requires

@@ -1,20 +1,22 @@
 -- `replies::place_frame` meets its contract: no frame, or the outcome of place in both buffers.
-use Rattle.replies.proofs.Replies.{ff, unframed, counted-some, counted-none}
+use Rattle.answers.proofs.Answers.{ff}
+use Rattle.replies.proofs.Replies.{unframed, counted-some, counted-none}
 use lib.Seq.{length-take-le}
 use lib.ListN.{take, length, getD}
 use mathlib.Core.Path.{_≡_, refl, sym, _∙_}
-use Rattle.replies.proofs.Answers.{place-words, place-replied, place-worked}
+use Rattle.replies.proofs.Calls.{place-words, place-replied, place-worked}
 use Prim.Native.Nat.{_-_}
+use Rattle.kdb.specs.Calls.{working}
 use borrow.Author.Needs.{needs}
 use native.Mathlib.Omega.{arith}
 use Rattle.replies.proofs.place_frame.Statement.{statement}
 use Rattle.replies.proofs.place_frame.Tie as tie
 use Rattle.replies.proofs.place_frame.Reads as reads
 use Rattle.replies.proofs.place_frame.Lts as lts
-use Rattle.replies.proofs.no_frame.Reads as no-frame-reads
+use Rattle.answers.proofs.no_frame.Reads as no-frame-reads
 use Rattle.index.proofs.place.Reads as place-reads
-use Rattle.replies.proofs.placed_values.Reads as placed-values-reads
-use Rattle.replies.proofs.put_answer.Reads as put-answer-reads
+use Rattle.answers.proofs.finished_values.Reads as finished-values-reads
+use Rattle.answers.proofs.put_answer.Reads as put-answer-reads
 
 no-frame-requires : tie.Need-no-frame-requires
 no-frame-requires c κs = search needs
@@ -63,8 +65,8 @@ slice-aggregate-place-3 c = sym (length-take-le _ _ (omega arith))
 place-requires : tie.Need-place-requires
 place-requires c κs = search needs
 
-placed-values-requires : tie.Need-placed-values-requires
-placed-values-requires c κs = search needs
+finished-values-requires : tie.Need-finished-values-requires
+finished-values-requires c κs = search needs
 
 array-share-prefix-none : tie.Need-array-share-prefix-none
 array-share-prefix-none c = search needs
@@ -89,7 +91,7 @@ returns-3 c = let a = c .before .before .before .before .before .before .before 
     let p = c .before .before .before .before .before .before .before .before .before .before .place in
     let k : length (take (a .words) (a .work .now)) ≡ length (take (a .words) (a .pool .now)) = length-take-le (a .words) (a .work .now) (omega (arith, c .before .before .before .before .before .before .before .before .before .before .before .before .before .before .before .before .before .before .before .before .before .pre)) ∙ sym (length-take-le (a .words) (a .pool .now) (omega (arith, c .before .before .before .before .before .before .before .before .before .before .before .before .before .before .before .before .before .before .before .before .before .pre))) in
     rw (counted-some 16 (a .n) (a .list .now) (c .before .before .before .before .before .before .before .before .before .before .before .before .before .before .before .before .if1 .left), place-words (a .list .now) (a .n) (omega (arith, c .before .before .before .before .before .before .before .before .before .before .before .before .before .before .before .before .before .before .before .before .before .pre)) (omega (arith, c .before .before .before .before .before .before .before .before .before .before .before .before .before .before .before .before .before .before .before .before .before .pre))) (
-      place-replied (p .result) (a .words) (a .pool .now) (p .last .0) (a .work .now) (p .last .1 .0) (take (a .n - 1) (a .list .now)) (getD (a .list .now) (a .n - 1) 0) (p .ensures) (c .before .before .before .before .before .placed-values .ensures (p .last .0) (p .last .1 .0)) (p .kept .0) k (omega (arith, c .before .before .before .before .before .before .before .before .before .before .before .before .before .before .before .before .before .before .before .before .before .pre)) (c .before .before .put-answer .ensures .0) (c .before .before .put-answer .ensures .1) (omega (arith, c .before .before .before .before .before .before .before .before .before .before .before .before .before .before .before .before .before .before .before .before .before .pre)),
+      place-replied (p .result) (a .words) (a .pool .now) (p .last .0) (a .work .now) (p .last .1 .0) (take (a .n - 1) (a .list .now)) (getD (a .list .now) (a .n - 1) 0) (p .ensures) (c .before .before .before .before .before .finished-values .ensures (working (p .last .1 .0) (p .last .0))) (p .kept .0) k (omega (arith, c .before .before .before .before .before .before .before .before .before .before .before .before .before .before .before .before .before .before .before .before .before .pre)) (c .before .before .put-answer .ensures .0) (c .before .before .put-answer .ensures .1) (omega (arith, c .before .before .before .before .before .before .before .before .before .before .before .before .before .before .before .before .before .before .before .before .before .pre)),
       place-worked (p .result) (a .words) (a .pool .now) (p .last .0) (a .work .now) (p .last .1 .0) (take (a .n - 1) (a .list .now)) (getD (a .list .now) (a .n - 1) 0) (p .ensures) (p .kept .1 .0) (omega (arith, c .before .before .before .before .before .before .before .before .before .before .before .before .before .before .before .before .before .before .before .before .before .pre)),
     )
 
@@ -112,7 +114,7 @@ place-frame-spec =
     slice-aggregate-place-2
     slice-aggregate-place-3
     place-requires
-    placed-values-requires
+    finished-values-requires
     array-share-prefix-none
     slice-aggregate-put-answer
     put-answer-requires

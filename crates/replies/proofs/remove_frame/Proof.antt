@@ -3,17 +3,18 @@ use Rattle.replies.proofs.Replies.{unframed, counted-some, counted-none
 use lib.Seq.{length-take-le}
 use lib.ListN.{take}
 use mathlib.Core.Path.{sym}
-use Rattle.replies.proofs.Answers.{remove-replied}
+use Rattle.replies.proofs.Calls.{remove-replied}
+use Rattle.kdb.specs.Calls.{alone}
 use borrow.Author.Needs.{needs}
 use native.Mathlib.Omega.{arith}
 use Rattle.replies.proofs.remove_frame.Statement.{statement}
 use Rattle.replies.proofs.remove_frame.Tie as tie
 use Rattle.replies.proofs.remove_frame.Reads as reads
 use Rattle.replies.proofs.remove_frame.Lts as lts
-use Rattle.replies.proofs.no_frame.Reads as no-frame-reads
+use Rattle.answers.proofs.no_frame.Reads as no-frame-reads
 use Rattle.index.proofs.remove.Reads as remove-reads
-use Rattle.replies.proofs.put_answer.Reads as put-answer-reads
-use Rattle.replies.proofs.removed_values.Reads as removed-values-reads
+use Rattle.answers.proofs.put_answer.Reads as put-answer-reads
+use Rattle.answers.proofs.removed_values.Reads as removed-values-reads
 
 no-frame-requires : tie.Need-no-frame-requires
 no-frame-requires c κs = search needs
@@ -59,7 +60,7 @@ returns-2 : tie.Need-returns-2
 returns-2 c = let a = c .before .before .before .before .before .before .before .before .before .before .before .before .before .before .before .args in
     let p = c .before .before .before .before .before .before .before .before .remove in
     rw (counted-some 16 (a .n) (a .list .now) (c .before .before .before .before .before .before .before .before .before .before .before .if1 .left))
-    (remove-replied (p .result) (a .words) (a .pool .now) (p .last .0) (take (a .n) (a .list .now)) (p .ensures) (c .before .before .before .before .before .removed-values .ensures (p .last .0)) (p .kept .0) (omega arith) (c .before .before .put-answer .ensures .0) (c .before .before .put-answer .ensures .1) (omega arith))
+    (remove-replied (p .result) (a .words) (a .pool .now) (p .last .0) (take (a .n) (a .list .now)) (p .ensures) (c .before .before .before .before .before .removed-values .ensures (alone (p .last .0))) (p .kept .0) (omega arith) (c .before .before .put-answer .ensures .0) (c .before .before .put-answer .ensures .1) (omega arith))
 
 pub remove-frame-spec : {M : Type 1} → statement M
 remove-frame-spec =

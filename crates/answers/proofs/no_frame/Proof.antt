@@ -1,11 +1,11 @@
--- `replies::no_frame` meets its contract: the number 255 alone is FF.
-use Rattle.replies.proofs.Replies.{ff}
+-- `answers::no_frame` meets its contract: the number 255 alone is FF.
+use Rattle.answers.proofs.Answers.{ff}
 use borrow.Author.Needs.{needs}
-use Rattle.replies.proofs.no_frame.Statement.{statement}
-use Rattle.replies.proofs.no_frame.Tie as tie
-use Rattle.replies.proofs.no_frame.Reads as reads
-use Rattle.replies.proofs.no_frame.Lts as lts
-use Rattle.replies.proofs.refuse.Reads as refuse-reads
+use Rattle.answers.proofs.no_frame.Statement.{statement}
+use Rattle.answers.proofs.no_frame.Tie as tie
+use Rattle.answers.proofs.no_frame.Reads as reads
+use Rattle.answers.proofs.no_frame.Lts as lts
+use Rattle.answers.proofs.refuse.Reads as refuse-reads
 
 refuse-requires : tie.Need-refuse-requires
 refuse-requires c κs = search needs

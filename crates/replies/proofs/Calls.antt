@@ -1,4 +1,4 @@
--- The answers of the calls as text: an outcome's number, values and locations are what the code writes.
+-- The replies of the calls: what stands in the buffers after each is what its outcome says.
 use mathlib.Core.Bool.{false, _&&_, cond}
 use mathlib.Core.List.{List, [], _∷_, _++_}
 use mathlib.Core.Option.{Option, none, some}
@@ -11,41 +11,28 @@ use lib.Dec.{leb, eqb}
 use borrow.Author.Tests.{lt-leb, ne-eqb}
 use Rattle.kdb.specs.Pool.{goodLength, domains}
 use Rattle.kdb.specs.Walk.{End, rootless, bad, absent, here, findWalk, listWalk}
-use Rattle.kdb.specs.Calls.{L, Call, format, place, remove, find, list, Buffers, lent, Outcome, gives, refuses, Test, _or_, unless, judge, goodDomains, windowOf, removing, finding, tests, core, outcome, Promise}
+use Rattle.kdb.specs.declared.Refusal.the-variants.{PoolLength, Domains}
+use Rattle.kdb.specs.Calls.{alone, working, answering, L, Call, format, place, remove, find, list, Buffers, lent, Outcome, refuses, Test, _or_, unless, judge, goodDomains, windowOf, removing, finding, tests, core, outcome, Promise}
 use Rattle.kdb.specs.Frames.{wordsOf, newOf, placeOf, slots, withWords, framed, Frame, new, call, Reply, answerText, renewed, answered, obey}
 use Rattle.kdb.proofs.Lists.{and-false, cases, cond-case}
-use Rattle.kdb.proofs.Calls.{refusal-keeps}
+use Rattle.kdb.proofs.Lawful.{refusal-keeps}
 use Rattle.kdb.proofs.Frames.{format-length, place-work}
-use Rattle.index.specs.Answers.{alone, with, beside, formattedAs, placedAs, removedAs, foundAs, listedAs}
-use Rattle.index.specs.declared.Formatted.{Formatted}
-use Rattle.index.specs.declared.Formatted.the-variants as formats
-use Rattle.index.specs.declared.Found.{Found}
-use Rattle.index.specs.declared.Found.the-variants as finds
-use Rattle.index.specs.declared.Listed.{Listed}
-use Rattle.index.specs.declared.Listed.the-variants as lists
-use Rattle.index.specs.declared.Placed.{Placed}
-use Rattle.index.specs.declared.Placed.the-variants as places
+use Rattle.opening.specs.Opens.{finishedAs}
+use Rattle.opening.specs.declared.Finished.{Finished}
+use Rattle.opening.specs.declared.Finished.the-variants as finishes
+use Rattle.query.specs.Answers.{foundAs, listedAs}
+use Rattle.query.specs.declared.Found.{Found}
+use Rattle.query.specs.declared.Found.the-variants as finds
+use Rattle.query.specs.declared.Listed.{Listed}
+use Rattle.query.specs.declared.Listed.the-variants as lists
+use Rattle.index.specs.Answers.{removedAs}
 use Rattle.index.specs.declared.Removed.{Removed}
 use Rattle.index.specs.declared.Removed.the-variants as removes
 use Rattle.replies.proofs.Replies.{laid, laid-same, take-least}
 use Rattle.text.specs.Text.{Written}
-use Rattle.replies.specs.Reply.{valuesOf, textOf, workAfter, removeOf, findOf, listOf, Replied, Spoken}
-
--- an answer without values, and one with two
-pub refused-spoken : (n : ℕ) (b : Buffers) {number count first second : ℕ} → (number ≡ n) × ((count ≡ 0) × (first ≡ 0)) → Spoken (refuses n b) number count first second
-refused-spoken n b {number} {count} {first} {second} e =
-    record { number-is = e .0; values-are = ap (λ c. valuesOf c first second) (e .1 .0); first-is = e .1 .1 }
-
-pub one-spoken : (x : ℕ) (b : Buffers) → Spoken (gives (x ∷ []) b) 0 1 x 0
-one-spoken x b = record { number-is = refl; values-are = refl; first-is = refl }
-
-pub two-spoken : (x y : ℕ) (b : Buffers) → Spoken (gives (x ∷ y ∷ []) b) 0 2 x y
-two-spoken x y b = record { number-is = refl; values-are = refl; first-is = refl }
-
--- the text of an outcome that was told so, with the locations that its slots took
-pub spoken-text : {o : Outcome} {number count first second : ℕ} → Spoken o number count first second → answerText o ≡ textOf number (valuesOf count first second) (take first (o .after .answer))
-unfolding textOf
-spoken-text {o} {number} {count} {first} {second} s = rw (s .number-is, s .values-are, s .first-is)
+use Rattle.answers.specs.Spoken.{valuesOf, textOf, Spoken}
+use Rattle.answers.proofs.Answers.{spoken-text}
+use Rattle.replies.specs.Reply.{workAfter, removeOf, findOf, listOf, Replied}
 
 -- the reply of a call that kept its promise
 pub replied : {o : Outcome} {p : Reply} {number count first second words at at′ : ℕ} {pool pool′ out out′ : List ℕ} (slots : List ℕ) → answered o ≡ p → Spoken o number count first second
@@ -54,73 +41,47 @@ pub replied : {o : Outcome} {p : Reply} {number count first second words at at�
 replied slots p s e l f t r h = rw (← p) (record { holds = e; long = l; text = rw (spoken-text s, f) t; room = r; within = h })
 
 -- the buffers of each answer
-pub found-after : (f : Found) (w : List ℕ) → foundAs f w .after ≡ alone w
-found-after (finds.At l r) w = refl
-found-after finds.NotPages w = refl
-found-after finds.BadHeader w = refl
-found-after finds.NotWords w = refl
-found-after finds.Infinite w = refl
-found-after finds.BadPage w = refl
-found-after finds.Absent w = refl
+pub found-after : (f : Found) (b : Buffers) → foundAs f b .after ≡ b
+found-after (finds.At l r) b = refl
+found-after (finds.Refused r) b = refl
 
-pub listed-after : (f : Listed) (w a : List ℕ) → listedAs f w a .after ≡ with w a
-listed-after (lists.Counted t r) w a = refl
-listed-after lists.NotPages w a = refl
-listed-after lists.BadHeader w a = refl
-listed-after lists.NotWords w a = refl
-listed-after lists.Infinite w a = refl
-listed-after lists.Crossed w a = refl
-listed-after lists.BadPage w a = refl
+pub listed-after : (f : Listed) (b : Buffers) → listedAs f b .after ≡ b
+listed-after (lists.Counted t r) b = refl
+listed-after (lists.Refused r) b = refl
 
-pub formatted-after : (f : Formatted) (w : List ℕ) → formattedAs f w .after ≡ alone w
-formatted-after formats.Done w = refl
-formatted-after formats.NotPages w = refl
-formatted-after formats.NotDomains w = refl
+pub finished-after : (f : Finished) (b : Buffers) → finishedAs f b .after ≡ b
+finished-after finishes.Done b = refl
+finished-after (finishes.Refused r) b = refl
 
-placed-after : (f : Placed) (w work : List ℕ) → placedAs f w work .after ≡ beside w work
-placed-after places.Done w work = refl
-placed-after places.NotPages w work = refl
-placed-after places.BadHeader w work = refl
-placed-after places.NotWords w work = refl
-placed-after places.Infinite w work = refl
-placed-after places.NotSound w work = refl
-placed-after places.Present w work = refl
-placed-after places.NoPage w work = refl
+removed-after : (f : Removed) (b : Buffers) → removedAs f b .after ≡ b
+removed-after (removes.At l) b = refl
+removed-after (removes.Refused r) b = refl
 
-removed-after : (f : Removed) (w : List ℕ) → removedAs f w .after ≡ alone w
-removed-after (removes.At l) w = refl
-removed-after removes.NotPages w = refl
-removed-after removes.BadHeader w = refl
-removed-after removes.NotWords w = refl
-removed-after removes.Infinite w = refl
-removed-after removes.NotSound w = refl
-removed-after removes.Absent w = refl
-
-formatted-text : (f : Formatted) (w : List ℕ) {number count first second : ℕ} → Spoken (formattedAs f w) number count first second
-    → answerText (formattedAs f w) ≡ textOf number (valuesOf count first second) []
+formatted-text : (f : Finished) (w : List ℕ) {number count first second : ℕ} → Spoken (finishedAs f (alone w)) number count first second
+    → answerText (finishedAs f (alone w)) ≡ textOf number (valuesOf count first second) []
 formatted-text f w {number} {count} {first} {second} s =
-    spoken-text s ∙ ap (textOf number (valuesOf count first second)) (ap (λ (b : Buffers). take first (b .answer)) (formatted-after f w) ∙ take-nil first)
+    spoken-text s ∙ ap (textOf number (valuesOf count first second)) (ap (λ (b : Buffers). take first (b .answer)) (finished-after f (alone w)) ∙ take-nil first)
 
 -- find and list
-pub find-replied : (f : Found) (words : ℕ) (pool p : List ℕ) {number count first second at at′ : ℕ} {out out′ : List ℕ} → Promise (take words pool) (find p) (foundAs f (take words pool))
-    → Spoken (foundAs f (take words pool)) number count first second → words ≤ length pool → Written out at (textOf number (valuesOf count first second) []) out′ at′ → at′ ≤ at + 531 → words ≤ 16384
+pub find-replied : (f : Found) (words : ℕ) (pool p : List ℕ) {number count first second at at′ : ℕ} {out out′ : List ℕ} → Promise (take words pool) (find p) (foundAs f (alone (take words pool)))
+    → Spoken (foundAs f (alone (take words pool))) number count first second → words ≤ length pool → Written out at (textOf number (valuesOf count first second) []) out′ at′ → at′ ≤ at + 531 → words ≤ 16384
     → Replied (answered (outcome (take words pool) (find p))) pool out at pool out′ words at′
 find-replied f words pool p {number} {count} {first} q s fits t r h =
     let w = take words pool in
-    let old = sym (ap (λ (b : Buffers). b .pool) (found-after f w)) in
+    let old = sym (ap (λ (b : Buffers). b .pool) (found-after f (alone w))) in
     replied [] (ap answered (q .kept)) s (laid-same words pool ∙ ap (sets pool 0) old) (sym (length-take-le words pool fits) ∙ ap length old)
-    (ap (λ (b : Buffers). take first (b .answer)) (found-after f w) ∙ take-nil first) t r h
+    (ap (λ (b : Buffers). take first (b .answer)) (found-after f (alone w)) ∙ take-nil first) t r h
 
-pub list-replied : (f : Listed) (words : ℕ) (pool v full slots : List ℕ) (shown : ℕ) {number count first second at at′ : ℕ} {out out′ : List ℕ} → Promise (take words pool) (list v slots) (listedAs f (take words pool) full)
-    → Spoken (listedAs f (take words pool) full) number count first second → length full ≡ 64 → shown ≡ min first 64 → words ≤ length pool
+pub list-replied : (f : Listed) (words : ℕ) (pool v full slots : List ℕ) (shown : ℕ) {number count first second at at′ : ℕ} {out out′ : List ℕ} → Promise (take words pool) (list v slots) (listedAs f (answering full (take words pool)))
+    → Spoken (listedAs f (answering full (take words pool))) number count first second → length full ≡ 64 → shown ≡ min first 64 → words ≤ length pool
     → Written out at (textOf number (valuesOf count first second) (take shown full)) out′ at′ → at′ ≤ at + 531 → words ≤ 16384
     → Replied (answered (outcome (take words pool) (list v slots))) pool out at pool out′ words at′
 list-replied f words pool v full slots shown {number} {count} {first} q s l m fits t r h =
     let w = take words pool in
-    let old = sym (ap (λ (b : Buffers). b .pool) (listed-after f w full)) in
+    let old = sym (ap (λ (b : Buffers). b .pool) (listed-after f (answering full w))) in
     let some : take first full ≡ take shown full = take-least first full ∙ ap (λ n. take n full) (ap (min first) l ∙ sym m) in
     replied (take shown full) (ap answered (q .kept)) s (laid-same words pool ∙ ap (sets pool 0) old) (sym (length-take-le words pool fits) ∙ ap length old)
-    (ap (λ (b : Buffers). take first (b .answer)) (listed-after f w full) ∙ some) t r h
+    (ap (λ (b : Buffers). take first (b .answer)) (listed-after f (answering full w)) ∙ some) t r h
 
 -- a format's frame of 3 bytes
 pub new-three : (bytes : List ℕ) → length bytes ≡ 3 → newOf bytes ≡ new (getD bytes 0 0) (256 * getD bytes 1 0 + getD bytes 2 0)
@@ -131,12 +92,12 @@ new-three (k ∷ a ∷ b ∷ []) h = refl
 new-three (k ∷ a ∷ b ∷ c ∷ bytes) h = absurd (omega arith)
 
 -- more than 512 pages are refused
-big : (k n : ℕ) (v : List ℕ) → length v ≡ L * n → 512 < n → outcome v (format k) ≡ refuses 1 (lent v (format k))
+big : (k n : ℕ) (v : List ℕ) → length v ≡ L * n → 512 < n → outcome v (format k) ≡ refuses PoolLength (lent v (format k))
 unfolding outcome goodLength
 big k n v e h =
     let m : length v / L ≡ n = rw e (omega arith) in
     let no : goodLength L v ≡ false = rw (m, lt-leb n 512 h) (and-false (eqb (length v % L) 0 && leb 2 n)) in
-    ap (λ t. unless t 1 (lent v (format k)) (judge ((goodDomains k or 2) ∷ []) (lent v (format k)) (core v (format k)))) no
+    ap (λ t. unless t PoolLength (lent v (format k)) (judge ((goodDomains k or Domains) ∷ []) (lent v (format k)) (core v (format k)))) no
 
 pub new-big : (pool : List ℕ) (words k n : ℕ) {at at′ : ℕ} {out out′ : List ℕ} → 512 < n → words ≤ length pool → Written out at (textOf 1 [] []) out′ at′ → at′ ≤ at + 531 → words ≤ 16384
     → Replied (obey (take words pool) (new k n)) pool out at pool out′ words at′
@@ -146,18 +107,18 @@ new-big pool words k n h fits t r l =
     (record { holds = laid-same words pool; long = sym (length-take-le words pool fits); text = t; room = r; within = l })
 
 -- what a format of the first words of a buffer makes of the pool
-module _ (f : Formatted) (w pool part : List ℕ) (k n : ℕ) (fits : 32 * n ≤ length pool) (q : Promise (take (32 * n) pool) (format k) (formattedAs f part)) where
-  new-same : renewed w (formattedAs f part) ≡ obey w (new k n)
+module _ (f : Finished) (w pool part : List ℕ) (k n : ℕ) (fits : 32 * n ≤ length pool) (q : Promise (take (32 * n) pool) (format k) (finishedAs f (alone part))) where
+  new-same : renewed w (finishedAs f (alone part)) ≡ obey w (new k n)
   new-same =
       ap (renewed w) (q .kept)
       ∙ format-length w (take (32 * n) pool) (replicate (L * n) 0) k (length-take-le (32 * n) pool fits ∙ sym (length-replicate (L * n) 0))
 
-  pub new-done : {number count first second at at′ : ℕ} {out out′ : List ℕ} → Spoken (formattedAs f part) number count first second → number ≡ 0 → length part ≡ length (take (32 * n) pool)
+  pub new-done : {number count first second at at′ : ℕ} {out out′ : List ℕ} → Spoken (finishedAs f (alone part)) number count first second → number ≡ 0 → length part ≡ length (take (32 * n) pool)
       → Written out at (textOf number (valuesOf count first second) []) out′ at′ → at′ ≤ at + 531 → n ≤ 512 → Replied (obey w (new k n)) pool out at (part ++ drop (32 * n) pool) out′ (32 * n) at′
   new-done {number} {count} {first} {second} s z l t r h =
-      let done : formattedAs f part .number ≡ 0 = sym (s .number-is) ∙ z in
-      let made : part ≡ renewed w (formattedAs f part) .pool =
-      sym (ap (λ (b : Buffers). b .pool) (formatted-after f part)) ∙ ap (λ m. cond (eqb m 0) (formattedAs f part .after .pool) w) (sym done) in
+      let done : finishedAs f (alone part) .number ≡ 0 = sym (s .number-is) ∙ z in
+      let made : part ≡ renewed w (finishedAs f (alone part)) .pool =
+      sym (ap (λ (b : Buffers). b .pool) (finished-after f (alone part))) ∙ ap (λ m. cond (eqb m 0) (finishedAs f (alone part) .after .pool) w) (sym done) in
       rw (← new-same)
       (record {
         holds = laid (32 * n) pool part l ∙ ap (sets pool 0) made;
@@ -167,17 +128,17 @@ module _ (f : Formatted) (w pool part : List ℕ) (k n : ℕ) (fits : 32 * n ≤
         within = omega arith;
       })
 
-  pub new-refused : (words : ℕ) {number count first second at at′ : ℕ} {out out′ : List ℕ} → Spoken (formattedAs f part) number count first second → (number ≡ 0 → ⊥)
+  pub new-refused : (words : ℕ) {number count first second at at′ : ℕ} {out out′ : List ℕ} → Spoken (finishedAs f (alone part)) number count first second → (number ≡ 0 → ⊥)
       → Written out at (textOf number (valuesOf count first second) []) out′ at′ → at′ ≤ at + 531 → words ≤ 16384 → words ≤ length pool → take words pool ≡ w
       → Replied (obey w (new k n)) pool out at (part ++ drop (32 * n) pool) out′ words at′
   new-refused words {number} {count} {first} {second} s z t r h m e =
-      let no : formattedAs f part .number ≡ 0 → ⊥ = λ d. z (s .number-is ∙ d) in
+      let no : finishedAs f (alone part) .number ≡ 0 → ⊥ = λ d. z (s .number-is ∙ d) in
       let old : part ≡ take (32 * n) pool =
-      sym (ap (λ (b : Buffers). b .pool) (formatted-after f part)) ∙ ap (λ (o : Outcome). o .after .pool) (q .kept)
-      ∙ refusal-keeps (take (32 * n) pool) (format k) .kept (λ d. no (ap (λ (o : Outcome). o .number) (q .kept) ∙ d)) in
+      sym (ap (λ (b : Buffers). b .pool) (finished-after f (alone part))) ∙ ap (λ (o : Outcome). o .after .pool) (q .kept)
+      ∙ refusal-keeps (take (32 * n) pool) (format k) (λ d. no (ap (λ (o : Outcome). o .number) (q .kept) ∙ d)) in
       let whole : part ++ drop (32 * n) pool ≡ pool = ap (λ l. l ++ drop (32 * n) pool) old ∙ take-append-drop (32 * n) pool in
-      let same : take words pool ≡ renewed w (formattedAs f part) .pool =
-      e ∙ ap (λ t. cond t (formattedAs f part .after .pool) w) (sym (ne-eqb (formattedAs f part .number) 0 no)) in
+      let same : take words pool ≡ renewed w (finishedAs f (alone part)) .pool =
+      e ∙ ap (λ t. cond t (finishedAs f (alone part) .after .pool) w) (sym (ne-eqb (finishedAs f (alone part) .number) 0 no)) in
       rw (← new-same)
       (record {
         holds = whole ∙ laid-same words pool ∙ ap (sets pool 0) same;
@@ -201,32 +162,32 @@ place-words ws n h k =
     ∙ ap (λ l. call (λ work. place work (take (n - 1) ws) l)) (getD-take n ws (n - 1) 0 (omega arith))
 
 -- place and remove leave the pool's part changed and the rest of the buffer as it was
-pub place-replied : (f : Placed) (words : ℕ) (pool part work after p : List ℕ) (l : ℕ) {number count first second at at′ : ℕ} {out out′ : List ℕ}
-    → Promise (take words pool) (place (take words work) p l) (placedAs f part after) → Spoken (placedAs f part after) number count first second → length part ≡ length (take words pool)
+pub place-replied : (f : Finished) (words : ℕ) (pool part work after p : List ℕ) (l : ℕ) {number count first second at at′ : ℕ} {out out′ : List ℕ}
+    → Promise (take words pool) (place (take words work) p l) (finishedAs f (working after part)) → Spoken (finishedAs f (working after part)) number count first second → length part ≡ length (take words pool)
     → length (take words work) ≡ length (take words pool) → words ≤ length pool → Written out at (textOf number (valuesOf count first second) []) out′ at′ → at′ ≤ at + 531 → words ≤ 16384
     → Replied (obey (take words pool) (call (λ work. place work p l))) pool out at (part ++ drop words pool) out′ words at′
 place-replied f words pool part work after p l {number} {count} {first} q s k m fits t r h =
     let w = take words pool in
     let same : answered (outcome w (place (take words work) p l)) ≡ answered (outcome w (place (replicate (length w) 0) p l)) =
     ap answered (place-work w p l (take words work) (replicate (length w) 0) (m ∙ sym (length-replicate (length w) 0))) in
-    let new = sym (ap (λ (b : Buffers). b .pool) (placed-after f part after)) in
+    let new = sym (ap (λ (b : Buffers). b .pool) (finished-after f (working after part))) in
     replied [] (ap answered (q .kept) ∙ same) s (laid words pool part k ∙ ap (sets pool 0) new) (sym (k ∙ length-take-le words pool fits) ∙ ap length new)
-    (ap (λ (b : Buffers). take first (b .answer)) (placed-after f part after) ∙ take-nil first) t r h
+    (ap (λ (b : Buffers). take first (b .answer)) (finished-after f (working after part)) ∙ take-nil first) t r h
 
-pub remove-replied : (f : Removed) (words : ℕ) (pool part p : List ℕ) {number count first second at at′ : ℕ} {out out′ : List ℕ} → Promise (take words pool) (remove p) (removedAs f part)
-    → Spoken (removedAs f part) number count first second → length part ≡ length (take words pool) → words ≤ length pool → Written out at (textOf number (valuesOf count first second) []) out′ at′ → at′ ≤ at + 531
+pub remove-replied : (f : Removed) (words : ℕ) (pool part p : List ℕ) {number count first second at at′ : ℕ} {out out′ : List ℕ} → Promise (take words pool) (remove p) (removedAs f (alone part))
+    → Spoken (removedAs f (alone part)) number count first second → length part ≡ length (take words pool) → words ≤ length pool → Written out at (textOf number (valuesOf count first second) []) out′ at′ → at′ ≤ at + 531
     → words ≤ 16384 → Replied (answered (outcome (take words pool) (remove p))) pool out at (part ++ drop words pool) out′ words at′
 remove-replied f words pool part p {number} {count} {first} q s k fits t r h =
-    let new = sym (ap (λ (b : Buffers). b .pool) (removed-after f part)) in
+    let new = sym (ap (λ (b : Buffers). b .pool) (removed-after f (alone part))) in
     replied [] (ap answered (q .kept)) s (laid words pool part k ∙ ap (sets pool 0) new) (sym (k ∙ length-take-le words pool fits) ∙ ap length new)
-    (ap (λ (b : Buffers). take first (b .answer)) (removed-after f part) ∙ take-nil first) t r h
+    (ap (λ (b : Buffers). take first (b .answer)) (removed-after f (alone part)) ∙ take-nil first) t r h
 
 -- place leaves in the work buffer what its outcome says; no other frame has one
-pub place-worked : (f : Placed) (words : ℕ) (pool part work after p : List ℕ) (l : ℕ) → Promise (take words pool) (place (take words work) p l) (placedAs f part after) → length after ≡ length (take words work)
+pub place-worked : (f : Finished) (words : ℕ) (pool part work after p : List ℕ) (l : ℕ) → Promise (take words pool) (place (take words work) p l) (finishedAs f (working after part)) → length after ≡ length (take words work)
     → words ≤ length pool → after ++ drop words work ≡ workAfter (take words pool) work (call (λ v. place v p l))
 place-worked f words pool part work after p l q k fits =
     laid words work after k
-    ∙ ap (sets work 0) (sym (ap (λ (b : Buffers). b .work) (placed-after f part after)) ∙ ap (λ (o : Outcome). o .after .work) (q .kept))
+    ∙ ap (sets work 0) (sym (ap (λ (b : Buffers). b .work) (finished-after f (working after part))) ∙ ap (λ (o : Outcome). o .after .work) (q .kept))
     ∙ ap (λ n. sets work 0 (outcome (take words pool) (place (take n work) p l) .after .work)) (sym (length-take-le words pool fits))
 
 judge-work : (ts : List Test) (b : Buffers) (o : Outcome) → b .work ≡ [] → o .after .work ≡ [] → judge ts b o .after .work ≡ []

@@ -1,11 +1,11 @@
--- `replies::put_answer` meets its contract: its parts stand one behind the other.
-use Rattle.replies.proofs.Replies.{answer-parts}
+-- `answers::put_answer` meets its contract: its parts stand one behind the other.
+use Rattle.answers.proofs.Answers.{answer-parts}
 use borrow.Author.Needs.{needs}
 use native.Mathlib.Omega.{arith}
-use Rattle.replies.proofs.put_answer.Statement.{statement}
-use Rattle.replies.proofs.put_answer.Tie as tie
-use Rattle.replies.proofs.put_answer.Reads as reads
-use Rattle.replies.proofs.put_answer.Lts as lts
+use Rattle.answers.proofs.put_answer.Statement.{statement}
+use Rattle.answers.proofs.put_answer.Tie as tie
+use Rattle.answers.proofs.put_answer.Reads as reads
+use Rattle.answers.proofs.put_answer.Lts as lts
 use Rattle.text.proofs.put.Reads as put-reads
 use Rattle.text.proofs.put_hex.Reads as put-hex-reads
 use Rattle.text.proofs.put_value.Reads as put-value-reads
