@@ -4,10 +4,9 @@
 # `tests/compare.sh --seed 7 --seconds 3600`.
 set -eu
 cd "$(dirname "$0")/.."
-for need in rt cargo cc; do
-  command -v "$need" >/dev/null 2>&1 || { echo "missing: $need"; exit 1; }
-done
+. tests/x86-64.inc
+tools rt cc run cargo
 rt staticlib export
 rt check korytanka
-(cd rust && cargo build --release --offline --quiet -p compare)
-exec rust/target/release/compare --program target/bin/korytanka "$@"
+(cd rust && "$CARGO" build --release --offline --quiet -p compare)
+exec $RUN_X86_64 "rust/$BUILT/release/compare" --program target/bin/korytanka "$@"

@@ -16,6 +16,8 @@ import threading
 ROOT = pathlib.Path(__file__).resolve().parent.parent
 COMMAND = ROOT / "korytanka"
 PROGRAM = ROOT / "target/bin/korytanka"
+# How it is started: the emulator's words in front, where the machine is not x86-64.
+START = [*os.environ.get("RUN_X86_64", "").split(), PROGRAM]
 SESSION = ROOT / "docs/session.txt"
 ANSWERS = ROOT / "docs/session.out"
 LONG = ROOT / "crates/korytanka/stdin"
@@ -24,7 +26,7 @@ LIMIT = 20
 
 
 def start(**more):
-    return subprocess.Popen([PROGRAM], stdin=subprocess.PIPE, stdout=subprocess.PIPE, bufsize=0, **more)
+    return subprocess.Popen(START, stdin=subprocess.PIPE, stdout=subprocess.PIPE, bufsize=0, **more)
 
 
 def some_from(process, most):
@@ -112,7 +114,7 @@ def in_pieces():
 def much_output():
     """One read that asks for more than the program's output buffer holds."""
     frames = b"00010010\n" + b"".join(b"01%08X%08X\n" % (i, i) for i in range(64)) + b"0400000000000000FF\n" * 3000
-    done = subprocess.run([PROGRAM], input=frames, capture_output=True, timeout=LIMIT)
+    done = subprocess.run(START, input=frames, capture_output=True, timeout=LIMIT)
     listed = b"00000000400000000A" + b"".join(b"%08X" % i for i in range(64))
     assert done.returncode == 0
     assert done.stdout.splitlines() == [b"00"] * 65 + [listed] * 3000
@@ -144,21 +146,31 @@ def command():
 
 
 def command_without():
-    """Without rt, and where the proof fails, it says so and runs nothing."""
+    """Without rt, where the proof fails, and without the emulator on Arm, it says so and runs nothing."""
     with tempfile.TemporaryDirectory() as folder:
         shutil.copy(COMMAND, folder)
         tools = pathlib.Path(folder) / "bin"
         tools.mkdir()
         for tool in ("bash", "env", "dirname", "readlink", "find", "grep", "touch"):
             (tools / tool).symlink_to(shutil.which(tool))
-        run = [f"{folder}/korytanka"]
-        done = subprocess.run(run, env={"PATH": str(tools)}, input=b"00020010\n", capture_output=True, timeout=LIMIT)
-        assert done.returncode == 1 and b"rt" in done.stderr and b"missing" in done.stderr and not done.stdout, done
-        fake = tools / "rt"
-        fake.write_text("#!/usr/bin/env bash\necho 'rt: FAILED: korytanka'\nexit 1\n")
-        fake.chmod(0o755)
-        done = subprocess.run(run, env={"PATH": str(tools)}, input=b"00020010\n", capture_output=True, timeout=LIMIT)
-        assert done.returncode == 1 and b"FAILED" in done.stderr and b"not proved" in done.stderr and not done.stdout, done
+
+        def fake(tool, does):
+            (tools / tool).write_text(f"#!/usr/bin/env bash\n{does}\n")
+            (tools / tool).chmod(0o755)
+
+        def says(*words):
+            run = [f"{folder}/korytanka"]
+            done = subprocess.run(run, env={"PATH": str(tools)}, input=b"00020010\n", capture_output=True, timeout=LIMIT)
+            assert done.returncode == 1 and all(word in done.stderr for word in words) and not done.stdout, done
+
+        fake("uname", "echo x86_64")
+        says(b"rt", b"missing")
+        fake("rt", "echo 'rt: FAILED: korytanka'; exit 1")
+        says(b"FAILED", b"not proved")
+        fake("uname", "echo aarch64")
+        says(b"qemu-x86_64", b"missing")
+        fake("qemu-x86_64", "exit 0")
+        says(b"FAILED", b"not proved")
 
 
 def main():

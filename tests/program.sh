@@ -2,7 +2,6 @@
 # The frame program at a pipe, and the command ./korytanka: tests/program.py says what is tried.
 set -eu
 cd "$(dirname "$0")/.."
-for need in rt python3; do
-  command -v "$need" >/dev/null 2>&1 || { echo "missing: $need"; exit 1; }
-done
+. tests/x86-64.inc
+tools rt python3 run
 exec python3 tests/program.py

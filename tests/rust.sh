@@ -3,9 +3,8 @@
 # run. Those of the comparison break an index or a frame program on purpose, and see that it is noticed.
 set -eu
 cd "$(dirname "$0")/.."
-for need in rt cargo cc; do
-  command -v "$need" >/dev/null 2>&1 || { echo "missing: $need"; exit 1; }
-done
+. tests/x86-64.inc
+tools rt cc run cargo
 rt staticlib export
 cd rust
-cargo test --offline --quiet
+"$CARGO" test --offline --quiet

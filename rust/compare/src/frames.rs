@@ -15,6 +15,31 @@ pub struct Program {
     pub words: Vec<String>,
 }
 
+impl Program {
+    /// An x86-64 program. The variable RUN_X86_64 has the words that are put in front, those of an emulator; without
+    /// it the machine runs the program itself.
+    pub fn x86_64(path: PathBuf, words: Vec<String>) -> Program {
+        let front = std::env::var("RUN_X86_64").unwrap_or_default();
+        let mut front = front.split_whitespace().map(String::from);
+        match front.next() {
+            None => Program { path, words },
+            Some(emulator) => Program {
+                path: emulator.into(),
+                words: front
+                    .chain([path.display().to_string()])
+                    .chain(words)
+                    .collect(),
+            },
+        }
+    }
+
+    pub fn command(&self) -> Command {
+        let mut command = Command::new(&self.path);
+        command.args(&self.words);
+        command
+    }
+}
+
 /// What a session is made of.
 #[derive(Default)]
 pub struct Session {
@@ -215,8 +240,8 @@ fn malformed(random: &mut Random, point: &[u32]) -> Vec<u8> {
 /// What a program writes for an input, or what went wrong.
 pub fn output(program: &Program, input: &[u8], piece: usize) -> Result<Vec<u8>, String> {
     let told = |what: &str, error: io::Error| format!("{what}: {error}");
-    let mut child = Command::new(&program.path)
-        .args(&program.words)
+    let mut child = program
+        .command()
         .stdin(Stdio::piped())
         .stdout(Stdio::piped())
         .spawn()

@@ -29,6 +29,9 @@
 //! compare --fault NAME              an index broken on purpose; `--faults` tries all of them, and fails
 //!                                   if one is not seen
 //! ```
+//!
+//! Where the machine is not x86-64, the variable RUN_X86_64 has the words that start an x86-64 program, as
+//! `qemu-x86_64 -L /usr/x86_64-linux-gnu`: this program starts itself again, and the frame program, by them.
 
 use compare::faults::{broken, broken_frames, FAULTS, FRAME_FAULTS};
 use compare::frames::{self, Program};
@@ -125,13 +128,10 @@ fn program(options: &Options) -> Result<Option<Program>, String> {
     if let Some(name) = broken {
         let path = std::env::current_exe().map_err(|error| error.to_string())?;
         let words = vec![String::from("--frames-with"), name.clone()];
-        return Ok(Some(Program { path, words }));
+        return Ok(Some(Program::x86_64(path, words)));
     }
-    let given = options.program.as_ref().map(|path| Program {
-        path: path.clone(),
-        words: Vec::new(),
-    });
-    Ok(given)
+    let given = options.program.clone();
+    Ok(given.map(|path| Program::x86_64(path, Vec::new())))
 }
 
 fn main() -> ExitCode {

@@ -2,13 +2,14 @@
 //! job under way is done again step by step, and its sequence is cut down with one process for each try.
 
 use crate::cut::cut;
+use crate::frames::Program;
 use crate::run::Watch;
 use crate::step::{parse_all, Step};
 use std::cell::RefCell;
 use std::fs::{self, File};
 use std::io::Write;
 use std::path::{Path, PathBuf};
-use std::process::{Command, ExitStatus, Stdio};
+use std::process::{ExitStatus, Stdio};
 use std::time::Duration;
 
 /// Writes every step to a file before it is taken, and starts the file anew with each sequence.
@@ -73,8 +74,7 @@ pub fn begun_file(folder: &Path, thread: usize) -> PathBuf {
 
 /// Starts this program again with these words.
 fn again(words: &[String], quiet: bool) -> std::io::Result<ExitStatus> {
-    let mut command = Command::new(std::env::current_exe()?);
-    command.args(words);
+    let mut command = Program::x86_64(std::env::current_exe()?, words.to_vec()).command();
     if quiet {
         command.stdout(Stdio::null()).stderr(Stdio::null());
     }

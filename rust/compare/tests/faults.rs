@@ -7,7 +7,6 @@ use compare::jobs::{cut_down, small, work, Compared, Job};
 use compare::random::{Random, Shape};
 use compare::run::{fails, Failure};
 use compare::step::{parse_all, Step, Work};
-use std::process::Command;
 use std::time::Duration;
 
 fn indexes<'a>(right: &'a dyn Index, other: &'a dyn Index) -> Compared<'a> {
@@ -63,8 +62,9 @@ fn every_fault_is_seen_and_cut_down() {
 #[test]
 fn a_death_is_seen_and_cut_down() {
     let run = |words: &[&str]| {
-        let mut command = Command::new(env!("CARGO_BIN_EXE_compare"));
-        let done = command.args(words).output().expect("it starts");
+        let words = words.iter().map(|word| word.to_string()).collect();
+        let program = Program::x86_64(env!("CARGO_BIN_EXE_compare").into(), words);
+        let done = program.command().output().expect("it starts");
         (
             done.status.code(),
             String::from_utf8_lossy(&done.stdout).into_owned(),
@@ -127,10 +127,8 @@ fn read_again(steps: &[Step]) -> Vec<Step> {
 
 /// This program as a frame program, broken if the name is that of a fault.
 fn frame_program(name: &str) -> Program {
-    Program {
-        path: env!("CARGO_BIN_EXE_compare").into(),
-        words: vec!["--frames-with".into(), name.into()],
-    }
+    let words = vec!["--frames-with".into(), name.into()];
+    Program::x86_64(env!("CARGO_BIN_EXE_compare").into(), words)
 }
 
 /// Sessions for a frame program: short ones, and some long enough for a list of 64 locations.
