@@ -10,8 +10,8 @@ use lib.Seq.{drop-drop}
 use Rattle.kdb.specs.Box.{Side, Box, sides}
 use Rattle.kdb.specs.Pages.{readEnts}
 use Rattle.kdb.proofs.Lists.{and-true, and-assoc}
-use Rattle.kdb.proofs.Words.{keysBy, keys-by}
-use Rattle.words.specs.Loops.{allBy}
+use Rattle.words.proofs.Loops.{keys-by}
+use Rattle.words.specs.Loops.{allBy, keysBy}
 use Rattle.cover.specs.Boxes.{sidesBy, boxAt, boxesAt, regionIn, regionsIn, sideBySide, insideOf, overlap, clearOf, fitting}
 
 pub side-loop : (f : Side → Side → Bool) (m : ℕ) (s t : ℕ → Side) (i : ℕ) (ok : Bool) → allBy m (λ n d. f (s d) (t d)) 1 i ok ≡ ok && sideBySide f (sidesBy m s i) (sidesBy m t i)

@@ -20,7 +20,7 @@ use Rattle.kdb.specs.Steps.{afterChosen}
 use Rattle.kdb.proofs.Lists.{bool, is-false, pad-sets, length-pad, take-sets-in, take-pad}
 use Rattle.kdb.proofs.Box.{within-length}
 use Rattle.kdb.proofs.Pages.{points-fit, regions-fit}
-use Rattle.kdb.proofs.Words.{keysBy}
+use Rattle.words.specs.Loops.{keysBy}
 use Rattle.cut.specs.Keys.{keyIn, keysIn}
 use Rattle.cut.specs.Chosen.{cutAs}
 use Rattle.cut.specs.declared.Chosen.{Chosen}

@@ -1,34 +1,22 @@
 -- What code reads word by word is what a page's view says: kind and count of a page by its words, and its records and entries one by one
 -- from a running place in the pool.
 use mathlib.Core.Bool.{Bool, true, false, _&&_, cond}
-use mathlib.Core.List.{List, [], _∷_}
-use mathlib.Core.Path.{_≡_, refl, sym, ap, ap₂, _∙_}
-use Prim.Native.Nat.{ℕ, zero, suc, _+_, _-_, _*_, _/_, _<_, _≤_}
+use mathlib.Core.List.{List, _∷_}
+use mathlib.Core.Path.{_≡_, refl, sym, ap, _∙_}
+use Prim.Native.Nat.{ℕ, suc, _+_, _-_, _*_, _/_, _<_, _≤_}
 use native.Mathlib.Omega.{arith}
 use native.Mathlib.Nat.{div-mul-le-self, mul-le-mul-right, le-trans}
 use lib.Dec.{leb, eqb}
 use lib.ListN.{length, take, drop, getD}
-use lib.Seq.{drop-cons, getD-drop, drop-drop}
+use lib.Seq.{getD-drop, drop-drop}
 use borrow.Author.Tests.{eqb-true, ne-eqb, leb-true}
-use Rattle.kdb.specs.Box.{Key, sides}
+use Rattle.kdb.specs.Box.{sides}
 use Rattle.kdb.specs.Tree.{Rec}
 use Rattle.kdb.specs.Pages.{Ent, Page, blank, points, regions, regionsPer, pointsPer, recsIn, entsIn, isPoints, isRegions, readRecs, readEnts, page}
 use Rattle.kdb.specs.Pool.{domains, view, isPage}
 use Rattle.kdb.specs.Walk.{goodPoints, goodRegions}
 use Rattle.kdb.proofs.Lists.{and-t, drop-take}
 use Rattle.kdb.proofs.Pages.{recs-take, ents-take, length-recs, length-ents, word-at}
-
--- m values of f from i on
-abbrev pub keysBy : ℕ → (ℕ → ℕ) → ℕ → Key
-keysBy zero f i = []
-keysBy (suc m) f i = f i ∷ keysBy m f (i + 1)
-
--- m words from a + i on, where there are so many
-pub keys-by : (m a i : ℕ) (w : List ℕ) (f : ℕ → ℕ) → ((d : ℕ) → f d ≡ getD w (a + d) 0) → a + i + m ≤ length w → keysBy m f i ≡ take m (drop (a + i) w)
-keys-by zero a i w f e h = refl
-keys-by (suc m) a i w f e h =
-    let q : suc (a + i) ≡ a + (i + 1) = omega arith in
-    rw (drop-cons w (a + i) 0 (omega arith)) (ap₂ _∷_ (e i) (keys-by m a (i + 1) w f e (omega arith) ∙ ap (λ (n : ℕ). take m (drop n w)) (sym q)))
 
 -- the record and the entry at word a of a pool
 abbrev pub recAt : ℕ → List ℕ → ℕ → Rec

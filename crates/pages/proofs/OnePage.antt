@@ -22,10 +22,10 @@ use Rattle.kdb.proofs.Lists.{and-l, and-r, and-i, bool-eq, of-true}
 use Rattle.kdb.proofs.Tiling.{tiles-iff}
 use Rattle.kdb.proofs.Pages.{page-full, points-fit, regions-fit}
 use Rattle.kdb.proofs.Pages.{recs-take, ents-take, length-recs, length-ents, word-at}
-use Rattle.kdb.proofs.Words.{keys-by, page-rest, kind, shape, seen}
+use Rattle.kdb.proofs.Words.{page-rest, kind, shape, seen}
 use Rattle.words.specs.Words.{wordAt, Paged, allZero}
 use Rattle.words.proofs.Laws.{pages}
-use Rattle.words.proofs.Loops.{every-by}
+use Rattle.words.proofs.Loops.{every-by, keys-by}
 use Rattle.cover.specs.Boxes.{regionsIn, Row}
 use Rattle.pages.specs.Tests.{keysIn, alone, distinctOf, headOf, Held, Numbered}
 use Rattle.pages.specs.Kinds.{soundPoints, soundRegions}

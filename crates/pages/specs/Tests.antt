@@ -8,8 +8,7 @@ use lib.ListN.{length, getD}
 use Rattle.kdb.specs.Lists.{every, same}
 use Rattle.kdb.specs.Box.{Side, Key}
 use Rattle.kdb.specs.Pool.{domains}
-use Rattle.kdb.proofs.Words.{keysBy}
-use Rattle.words.specs.Loops.{allBy}
+use Rattle.words.specs.Loops.{allBy, keysBy}
 use Rattle.words.specs.Words.{wordAt, Paged}
 
 -- the key at word a, and those of m records from word a on

@@ -16,10 +16,10 @@ use Rattle.kdb.specs.Calls.{L, finite}
 use Rattle.kdb.specs.Box.{∞}
 use Rattle.kdb.proofs.Lists.{and-t, is-true, of-true, sets-whole}
 use Rattle.kdb.proofs.Pool.{header-iff}
-use Rattle.kdb.proofs.Words.{keys-by, page-rest}
+use Rattle.kdb.proofs.Words.{page-rest}
 use Rattle.words.specs.Loops.{allBy}
 use Rattle.words.specs.Words.{pageCount, Paged, Fit, allZero, capacityOf}
-use Rattle.words.proofs.Loops.{every-by}
+use Rattle.words.proofs.Loops.{keys-by, every-by}
 use Rattle.words.proofs.Table.{at₂}
 
 pub paged : (w : List ℕ) → goodLength L w ≡ true → Paged w (pagesIn L w)

@@ -2,18 +2,17 @@
 use Prim.Native.Nat.{ℕ, zero, suc, _+_, _-_, _*_, _<_, _≤_, min}
 use mathlib.Core.Bool.{Bool, _&&_}
 use mathlib.Core.List.{List, [], _∷_}
-use mathlib.Core.Path.{_≡_, refl, sym, ap, _∙_}
+use mathlib.Core.Path.{_≡_, refl, sym, ap, ap₂, _∙_}
 use native.Mathlib.Omega.{arith}
 use native.Mathlib.Nat.{mul-le-mul-left}
 use native.Mathlib.Numerals.{add-one}
 use lib.Dec.{leb, leb→le, nleb→lt}
-use lib.ListN.{length, drop, getD, set, replicate, length-drop, length-replicate, List·getD-eq-default}
+use lib.ListN.{length, take, drop, getD, set, replicate, length-drop, length-replicate, List·getD-eq-default}
 use lib.Seq.{sets, drop-cons}
 use borrow.Author.Tests.{ne-eqb}
 use Rattle.kdb.specs.Lists.{every}
 use Rattle.kdb.proofs.Lists.{bool, and-true, and-assoc, sets-out}
-use Rattle.kdb.proofs.Words.{keysBy}
-use Rattle.words.specs.Loops.{allBy}
+use Rattle.words.specs.Loops.{allBy, keysBy}
 use Rattle.words.specs.Words.{wordAt, zeroAt, firstOr, freeFrom}
 
 module _ (c e : ℕ) (f : ℕ → ℕ → Bool) (d a : ℕ) (ok w : Bool) where
@@ -24,6 +23,13 @@ module _ (c e : ℕ) (f : ℕ → ℕ → Bool) (d a : ℕ) (ok w : Bool) where
   pub all-next : allBy (c - e) f d a ok ≡ w → e < c → allBy (c - (e + 1)) f d (a + d) (ok && f (c - (e + 1)) a) ≡ w
   unfolding allBy
   all-next v h = let q : c - e ≡ suc (c - (e + 1)) = omega arith in rw q at v
+
+-- m words from a + i on, where there are so many
+pub keys-by : (m a i : ℕ) (w : List ℕ) (f : ℕ → ℕ) → ((d : ℕ) → f d ≡ getD w (a + d) 0) → a + i + m ≤ length w → keysBy m f i ≡ take m (drop (a + i) w)
+keys-by zero a i w f e h = refl
+keys-by (suc m) a i w f e h =
+    let q : suc (a + i) ≡ a + (i + 1) = omega arith in
+    rw (drop-cons w (a + i) 0 (omega arith)) (ap₂ _∷_ (e i) (keys-by m a (i + 1) w f e (omega arith) ∙ ap (λ (n : ℕ). take m (drop n w)) (sym q)))
 
 -- a test of each of m values
 pub every-by : (t : ℕ → Bool) (m : ℕ) (f : ℕ → ℕ) (i : ℕ) (ok : Bool) → allBy m (λ n d. t (f d)) 1 i ok ≡ ok && every t (keysBy m f i)
