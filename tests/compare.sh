@@ -9,4 +9,10 @@ tools rt cc run cargo
 rt staticlib export
 rt check korytanka
 (cd rust && "$CARGO" build --release --offline --quiet -p compare)
-exec $RUN_X86_64 "rust/$BUILT/release/compare" --program target/bin/korytanka "$@"
+set -- --program target/bin/korytanka "$@"
+if [ -n "$RUN_X86_64" ]; then
+  # The emulator runs the library and the frame program; the second program and the comparison are compiled for this machine.
+  (cd rust && own_cargo build --release --offline --quiet -p compare)
+  set -- --library "rust/$BUILT/release/compare" "$@"
+fi
+exec rust/target/release/compare "$@"

@@ -33,6 +33,16 @@ impl Program {
         }
     }
 
+    /// The program that this is, started once more.
+    pub fn itself(words: Vec<String>) -> io::Result<Program> {
+        let path = std::env::current_exe()?;
+        Ok(if cfg!(target_arch = "x86_64") {
+            Program::x86_64(path, words)
+        } else {
+            Program { path, words }
+        })
+    }
+
     pub fn command(&self) -> Command {
         let mut command = Command::new(&self.path);
         command.args(&self.words);

@@ -1,6 +1,7 @@
 //! The six calls as both programs are asked for them.
 
-use korytanka::raw;
+#[cfg(target_arch = "x86_64")]
+pub use proved::{Bound, Proved};
 use second::calls;
 
 /// What a call answers: its number, and the returned values, 0 where there are none, so after every refusal.
@@ -87,64 +88,77 @@ fn second_list(pool: &[u32], window: &[u32], slots: &mut [u32]) -> Result<[u32; 
 
 index!(Second, calls, second_list);
 
-/// The proved library by way of its safe binding.
-pub struct Bound;
+/// The library is x86-64; elsewhere `served` has it.
+#[cfg(target_arch = "x86_64")]
+mod proved {
+    use super::{answer, Answer, Index};
+    use korytanka::raw;
 
-/// The locations that the binding returns have to be the front of the answer buffer; a panic here counts as a failure.
-fn bound_list(pool: &[u32], window: &[u32], slots: &mut [u32]) -> Result<[u32; 2], u32> {
-    let listed = korytanka::list(pool, window, slots).map_err(|refusal| refusal.number())?;
-    let (values, locations) = ([listed.total, listed.reads], listed.locations.to_vec());
-    let filled = slots.len().min(values[0] as usize);
-    assert_eq!(locations, slots[..filled], "the locations of a list");
-    Ok(values)
-}
+    /// The proved library by way of its safe binding.
+    pub struct Bound;
 
-index!(Bound, korytanka, bound_list);
-
-/// The proved library: the number and the fields as they come out of it, the fields after a refusal too.
-pub struct Proved;
-
-fn only(number: u32) -> Answer {
-    Answer {
-        number,
-        values: [0, 0],
-    }
-}
-
-impl Index for Proved {
-    fn format(&self, pool: &mut [u32], k: u32) -> Answer {
-        only(raw::format(pool, k))
+    /// The locations that the binding returns have to be the front of the answer buffer; a panic here counts as a failure.
+    fn bound_list(pool: &[u32], window: &[u32], slots: &mut [u32]) -> Result<[u32; 2], u32> {
+        let listed = korytanka::list(pool, window, slots).map_err(|refusal| refusal.number())?;
+        let (values, locations) = ([listed.total, listed.reads], listed.locations.to_vec());
+        let filled = slots.len().min(values[0] as usize);
+        assert_eq!(locations, slots[..filled], "the locations of a list");
+        Ok(values)
     }
 
-    fn check(&self, pool: &[u32]) -> Answer {
-        only(raw::check(pool))
-    }
+    index!(Bound, korytanka, bound_list);
 
-    fn place(&self, pool: &mut [u32], work: &mut [u32], point: &[u32], location: u32) -> Answer {
-        only(raw::place(pool, work, point, location))
-    }
+    /// The proved library: the number and the fields as they come out of it, the fields after a refusal too.
+    pub struct Proved;
 
-    fn remove(&self, pool: &mut [u32], point: &[u32]) -> Answer {
-        let removed = raw::remove(pool, point);
+    fn only(number: u32) -> Answer {
         Answer {
-            number: removed.number,
-            values: [removed.location, 0],
+            number,
+            values: [0, 0],
         }
     }
 
-    fn find(&self, pool: &[u32], point: &[u32]) -> Answer {
-        let found = raw::find(pool, point);
-        Answer {
-            number: found.number,
-            values: [found.location, found.reads],
+    impl Index for Proved {
+        fn format(&self, pool: &mut [u32], k: u32) -> Answer {
+            only(raw::format(pool, k))
         }
-    }
 
-    fn list(&self, pool: &[u32], window: &[u32], slots: &mut [u32]) -> Answer {
-        let listed = raw::list(pool, window, slots);
-        Answer {
-            number: listed.number,
-            values: [listed.total, listed.reads],
+        fn check(&self, pool: &[u32]) -> Answer {
+            only(raw::check(pool))
+        }
+
+        fn place(
+            &self,
+            pool: &mut [u32],
+            work: &mut [u32],
+            point: &[u32],
+            location: u32,
+        ) -> Answer {
+            only(raw::place(pool, work, point, location))
+        }
+
+        fn remove(&self, pool: &mut [u32], point: &[u32]) -> Answer {
+            let removed = raw::remove(pool, point);
+            Answer {
+                number: removed.number,
+                values: [removed.location, 0],
+            }
+        }
+
+        fn find(&self, pool: &[u32], point: &[u32]) -> Answer {
+            let found = raw::find(pool, point);
+            Answer {
+                number: found.number,
+                values: [found.location, found.reads],
+            }
+        }
+
+        fn list(&self, pool: &[u32], window: &[u32], slots: &mut [u32]) -> Answer {
+            let listed = raw::list(pool, window, slots);
+            Answer {
+                number: listed.number,
+                values: [listed.total, listed.reads],
+            }
         }
     }
 }

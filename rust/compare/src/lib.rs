@@ -9,6 +9,7 @@
 //! - `kinds`, `counts`: what is counted; what was met and what has to be.
 //! - `run`: a sequence as it is taken, written down and counted.
 //! - `sequences`, `spoilt`, `long`, `frames`: the parts of the comparison.
+//! - `served`: the library in a process of its own.
 //! - `cut`: a failing sequence cut down.
 //! - `jobs`: the jobs of a round and the threads that do them.
 //! - `supervise`: the process that works dies, and still a sequence is cut down.
@@ -27,6 +28,7 @@ pub mod pools;
 pub mod random;
 pub mod run;
 pub mod sequences;
+pub mod served;
 pub mod spoilt;
 pub mod step;
 pub mod supervise;

@@ -23,6 +23,8 @@
 //! compare                           one round with the seed of the test
 //! compare --seed 7 --seconds 3600   rounds with seed 7 until an hour has gone by, at least one
 //! compare --program PATH            the frame program to compare with the second one
+//! compare --library PATH            this program, compiled for x86-64, which serves the library's calls (`--serve`);
+//!                                   without it the library is in this process, on x86-64 alone
 //! compare --threads 4               as many threads as the machine has processors, if not given
 //! compare --replay FILE             a sequence once more; says what differs
 //! compare --itself                  the second program against itself, which tests this one
@@ -31,14 +33,15 @@
 //! ```
 //!
 //! Where the machine is not x86-64, the variable RUN_X86_64 has the words that start an x86-64 program, as
-//! `qemu-x86_64 -L /usr/x86_64-linux-gnu`: this program starts itself again, and the frame program, by them.
+//! `qemu-x86_64 -L /usr/x86_64-linux-gnu`.
 
 use compare::faults::{broken, broken_frames, FAULTS, FRAME_FAULTS};
 use compare::frames::{self, Program};
-use compare::index::{Index, Proved, Second};
+use compare::index::{Index, Second};
 use compare::jobs::{cut_down, do_round, round, shorter, work, Compared, Found};
 use compare::random::Random;
 use compare::run;
+use compare::served::{serve, Served};
 use compare::step::{parse_all, Step, FIRST, LAST};
 use compare::supervise::{begun_file, supervise, Trace};
 use std::io::{Read, Write};
@@ -57,6 +60,8 @@ struct Options {
     seconds: Option<u64>,
     threads: Option<usize>,
     program: Option<PathBuf>,
+    library: Option<PathBuf>,
+    serve: bool,
     replay: Option<PathBuf>,
     itself: bool,
     fault: Option<String>,
@@ -82,6 +87,8 @@ fn options(words: &[String]) -> Result<Options, String> {
             "--seconds" => options.seconds = Some(number(next()?)?),
             "--threads" => options.threads = Some(number(next()?)?.max(1) as usize),
             "--program" => options.program = Some(PathBuf::from(next()?)),
+            "--library" => options.library = Some(PathBuf::from(next()?)),
+            "--serve" => options.serve = true,
             "--replay" => options.replay = Some(PathBuf::from(next()?)),
             "--itself" => options.itself = true,
             "--fault" => options.fault = Some(next()?.clone()),
@@ -115,8 +122,20 @@ fn other(options: &Options) -> Result<Box<dyn Index>, String> {
             None => Err(format!("no such fault: {name}")),
         },
         None if options.itself => Ok(Box::new(Second)),
-        None => Ok(Box::new(Proved)),
+        None => proved(options),
     }
+}
+
+/// The proved library: in this process, or served by another.
+fn proved(options: &Options) -> Result<Box<dyn Index>, String> {
+    if let Some(path) = &options.library {
+        let words = vec![String::from("--serve")];
+        return Ok(Box::new(Served(Program::x86_64(path.clone(), words))));
+    }
+    #[cfg(target_arch = "x86_64")]
+    return Ok(Box::new(compare::index::Proved));
+    #[cfg(not(target_arch = "x86_64"))]
+    Err(String::from("the library is x86-64: --library is needed"))
 }
 
 /// The frame program that is compared with the second one.
@@ -126,9 +145,9 @@ fn program(options: &Options) -> Result<Option<Program>, String> {
         .as_ref()
         .filter(|name| name.starts_with("frames-"));
     if let Some(name) = broken {
-        let path = std::env::current_exe().map_err(|error| error.to_string())?;
         let words = vec![String::from("--frames-with"), name.clone()];
-        return Ok(Some(Program::x86_64(path, words)));
+        let program = Program::itself(words).map_err(|error| error.to_string())?;
+        return Ok(Some(program));
     }
     let given = options.program.clone();
     Ok(given.map(|path| Program::x86_64(path, Vec::new())))
@@ -163,6 +182,10 @@ fn start(words: &[String], options: &Options) -> Result<u8, String> {
         return all_faults(options);
     }
     let other = other(options)?;
+    if options.serve {
+        let served = serve(other.as_ref());
+        return served.map(|()| 0).map_err(|error| error.to_string());
+    }
     let program = program(options)?;
     if options.inner.is_none() {
         if let Some(path) = &options.replay {

@@ -7,7 +7,7 @@ use std::panic::{catch_unwind, AssertUnwindSafe};
 
 /// Words in front of and behind every buffer that is lent; nobody may write them.
 const GUARD: usize = 8;
-const MARK: u32 = 0x6A6A_6A6A;
+pub const MARK: u32 = 0x6A6A_6A6A;
 /// How a failure begins that is no difference.
 pub const UNSOUND: &str = "both agree, but the pool should be sound and check answers";
 

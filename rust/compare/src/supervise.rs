@@ -74,7 +74,7 @@ pub fn begun_file(folder: &Path, thread: usize) -> PathBuf {
 
 /// Starts this program again with these words.
 fn again(words: &[String], quiet: bool) -> std::io::Result<ExitStatus> {
-    let mut command = Program::x86_64(std::env::current_exe()?, words.to_vec()).command();
+    let mut command = Program::itself(words.to_vec())?.command();
     if quiet {
         command.stdout(Stdio::null()).stderr(Stdio::null());
     }

@@ -6,6 +6,7 @@ use compare::index::{Bound, Index, Proved, Second};
 use compare::jobs::{cut_down, small, work, Compared, Job};
 use compare::random::{Random, Shape};
 use compare::run::{fails, Failure};
+use compare::served::Served;
 use compare::step::{parse_all, Step, Work};
 use std::time::Duration;
 
@@ -180,6 +181,32 @@ fn a_frame_program_that_does_not_run_is_seen() {
             words: Vec::new(),
         };
         assert!(session_that_fails(&program).is_some(), "{path}");
+    }
+}
+
+/// The library gives the same in a process of its own. There, too, a write behind a buffer and a death are seen.
+#[test]
+fn the_library_is_served() {
+    let served = |words: &[&str]| {
+        let words = words.iter().map(|word| word.to_string()).collect();
+        Served(Program::x86_64(env!("CARGO_BIN_EXE_compare").into(), words))
+    };
+    // Each in a thread of its own, so with a process of its own.
+    let failure = |index: Served| {
+        let look =
+            move || (0..400).find_map(|n| small(indexes(&Second, &index), 5, n, false).err());
+        std::thread::spawn(look).join().expect("no panic")
+    };
+    let right = failure(served(&["--serve"]));
+    assert!(right.is_none(), "{}", right.expect("a failure").what);
+    for (words, wanted) in [
+        (&["--serve", "--fault", "writes-behind"][..], "outside"),
+        (&["--serve", "--fault", "aborts"], "death: signal"),
+        (&["--serve", "--fault", "no such fault"], "death: exit"),
+        (&["--serve", "--fault", "place-root-domain"], "pool word"),
+    ] {
+        let failure = failure(served(words)).expect("seen");
+        assert!(failure.what.contains(wanted), "{}", failure.what);
     }
 }
 
