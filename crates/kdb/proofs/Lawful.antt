@@ -98,12 +98,12 @@ SameWalk w w′ (toPoint p) = findWalk L w′ p ≡ findWalk L w p
 SameWalk w w′ (overWindow v) = listWalk L w′ v ≡ listWalk L w v
 
 -- a call with a walk, on two pools with as many domains: all but the walk is the same, and with the same walk so is what it tells
-pub record SameRow (w w′ : List ℕ) (c : Call) : Type 0 where
-  pub fits : row c .fits w′ ≡ row c .fits w
-  pub own : row c .own w′ ≡ row c .own w
-  pub route : row c .route w′ ≡ row c .route w
-  pub answer : lent w′ c .answer ≡ lent w c .answer
-  pub told : SameWalk w w′ (row c .route w) → Told (core w c) (core w′ c)
+pub record SameRow (w w′ : List ℕ) (r : Row) : Type 0 where
+  pub fits : r .fits w′ ≡ r .fits w
+  pub own : r .own w′ ≡ r .own w
+  pub route : r .route w′ ≡ r .route w
+  pub answer : r .lent w′ .answer ≡ r .lent w .answer
+  pub told : SameWalk w w′ (r .route w) → Told (r .core w) (r .core w′)
 
 finding-told : (w w′ read : List ℕ) (e : End) → Told (finding (ends read e) (alone w)) (finding (ends read e) (alone w′))
 finding-told w w′ read rootless = record { number = refl; values = refl; answer = refl }
@@ -116,7 +116,7 @@ listing-told : (w w′ answer read : List ℕ) (m : Bool) (found : List Spot)
 listing-told w w′ answer read true found = record { number = refl; values = refl; answer = refl }
 listing-told w w′ answer read false found = record { number = refl; values = refl; answer = refl }
 
-find-alike : (w w′ p : List ℕ) → domains w′ ≡ domains w → SameRow w w′ (find p)
+find-alike : (w w′ p : List ℕ) → domains w′ ≡ domains w → SameRow w w′ (row (find p))
 find-alike w w′ p e =
     record {
       fits = ap (eqb (length p)) e;
@@ -126,7 +126,7 @@ find-alike w w′ p e =
       told = λ s. subst (λ g. Told (finding (findWalk L w p) (alone w)) (finding g (alone w′))) (sym s) (finding-told w w′ (findWalk L w p .read) (findWalk L w p .end));
     }
 
-list-alike : (w w′ v answer : List ℕ) → domains w′ ≡ domains w → SameRow w w′ (list v answer)
+list-alike : (w w′ v answer : List ℕ) → domains w′ ≡ domains w → SameRow w w′ (row (list v answer))
 list-alike w w′ v answer e =
     record {
       fits = ap (λ k. eqb (length v) (2 * k)) e;
@@ -155,7 +155,7 @@ pub record Lawful (c : Call) : Type 0 where
   pub proper : (w : List ℕ) → Proper w (row c .returns) (core w c)
   pub fits : (w : List ℕ) → Each Word w → T (begins w c) → Each Word (core w c .values)
   pub does : (w : List ℕ) → T (begins w c) → core w c .number ≡ 0 → Does w (row c .effect) (core w c .after .pool)
-  pub alike : (w w′ : List ℕ) → T (walks (row c .route w)) → domains w′ ≡ domains w → SameRow w w′ c
+  pub alike : (w w′ : List ℕ) → T (walks (row c .route w)) → domains w′ ≡ domains w → SameRow w w′ (row c)
 
 -- find's and list's values are words, in a pool of good length
 find-fits : (w p : List ℕ) → Each Word w → T (begins w (find p)) → Each Word (core w (find p) .values)

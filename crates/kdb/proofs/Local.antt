@@ -263,7 +263,7 @@ module _ (w w′ : List ℕ) (c : Call) (t : T (walks (row c .route w))) (a : Ag
   word : (i : ℕ) → i < 4 → getD w′ i 0 ≡ getD w i 0
   word = agree-word L four w w′ (walkOf w c) a
 
-  alike : SameRow w w′ c
+  alike : SameRow w w′ (row c)
   alike = lawful c .alike w w′ t (word 0 (omega arith))
 
   -- is tested alike
