@@ -7,4 +7,10 @@ cd "$(dirname "$0")/.."
 tools rt cc run cargo
 rt staticlib export
 cd rust
-"$CARGO" test --offline --quiet
+if [ -n "$RUN_X86_64" ]; then
+  # The second program does not need the library: its tests are compiled for this machine, the others run in the emulator.
+  own_cargo test --offline --quiet -p second
+  "$CARGO" test --offline --quiet -p korytanka -p compare
+else
+  "$CARGO" test --offline --quiet
+fi
