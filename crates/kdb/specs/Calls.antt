@@ -209,7 +209,7 @@ row check =
       returns = 0;
       effect = unchanged;
     }
--- may still be refused with 9
+-- once its tests hold, place may still be refused with 9
 row (place work p l) =
     record {
       lent = working work;
@@ -222,7 +222,7 @@ row (place work p l) =
       returns = 0;
       effect = added (record { key = p; loc = l });
     }
--- with 8; its walk never meets a bad page, since its pool is sound
+-- remove with 8; its walk never meets a bad page, since its pool is sound
 row (remove p) =
     record {
       lent = alone;
@@ -235,7 +235,7 @@ row (remove p) =
       returns = 1;
       effect = dropped p;
     }
--- with 6 or 8
+-- find with 6 or 8
 row (find p) =
     record {
       lent = alone;
@@ -248,7 +248,7 @@ row (find p) =
       returns = 2;
       effect = unchanged;
     }
--- with 6
+-- list with 6
 row (list v answer) =
     record {
       lent = answering answer;
