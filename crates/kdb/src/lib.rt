@@ -1,4 +1,4 @@
-// Definitions and theorems: what the signal index means. It has no function, and one type that definitions and code share.
+// Definitions and theorems: what the signal index means. It has no function, and the types that definitions and code share.
 
 // Why a call was refused, in the order of document 01's numbers.
 pub enum Refusal {
@@ -11,4 +11,10 @@ pub enum Refusal {
     Present,
     Absent,
     NoFreePage,
+}
+
+// The form of a pool: how many pages it has, and how many domains.
+pub struct Form {
+    pub pages: usize,
+    pub domains: usize,
 }

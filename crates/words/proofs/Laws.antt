@@ -11,46 +11,43 @@ use lib.Seq.{sets, take-length}
 use borrow.Author.Tests.{eqb-true, leb-true}
 use Rattle.kdb.specs.Lists.{bit, every}
 use Rattle.kdb.specs.Pages.{page}
-use Rattle.kdb.specs.Pool.{domains, pagesIn, goodLength, goodHeader}
+use Rattle.kdb.specs.Pool.{domains, pagesIn, goodLength, goodHeader, GoodLength}
 use Rattle.kdb.specs.Calls.{L, finite}
+use Rattle.kdb.specs.declared.Form.{Form}
 use Rattle.kdb.specs.Box.{∞}
 use Rattle.kdb.proofs.Lists.{and-t, is-true, of-true, sets-whole}
-use Rattle.kdb.proofs.Pool.{header-iff}
+use Rattle.kdb.proofs.Pool.{length-iff, header-iff}
 use Rattle.kdb.proofs.Words.{page-rest}
 use Rattle.words.specs.Loops.{allBy}
-use Rattle.words.specs.Words.{pageCount, Paged, Fit, allZero, capacityOf}
+use Rattle.words.specs.Words.{pageCount, Formed, Fit, allZero, capacityOf}
 use Rattle.words.proofs.Loops.{keys-by, every-by}
 use Rattle.words.proofs.Table.{at₂}
 
-pub paged : (w : List ℕ) → goodLength L w ≡ true → Paged w (pagesIn L w)
-unfolding goodLength
-paged w t =
-    let a = and-t (eqb (length w % L) 0 && leb 2 (pagesIn L w)) (leb (pagesIn L w) 512) t in
-    let b = and-t (eqb (length w % L) 0) (leb 2 (pagesIn L w)) (a .0) in
-    let z : length w % 32 ≡ 0 = eqb-true (length w % L) 0 (b .0) in
-    record { words = omega arith; least = leb-true 2 (pagesIn L w) (b .1); most = leb-true (pagesIn L w) 512 (a .1) }
+-- a pool of n pages with a good header is fit for every call
+pub pages : (w : List ℕ) (f : Form) → Formed w f → pagesIn L w ≡ f .pages
+pages w f g = let z : length w ≡ 32 * f .pages = g .words in omega arith
 
-pub pages : (w : List ℕ) (n : ℕ) → Paged w n → pagesIn L w ≡ n
-pages w n g = let z : length w ≡ 32 * n = g .words in omega arith
-
--- a pool with a good header is fit for every call
-pub fit : (w : List ℕ) (n k : ℕ) → Paged w n → goodHeader L w ≡ true → k ≡ domains w → Fit w n k
-fit w n k g t e =
-    let h = header-iff L w .0 (of-true (goodHeader L w) t) in record { paged = g; says = sym e; least = rw e (h .least); few = rw e (h .most) }
+pub fit : (w : List ℕ) (n k : ℕ) → GoodLength L w → n ≡ pagesIn L w → goodHeader L w ≡ true → k ≡ domains w → Fit w (record { pages = n; domains = k })
+fit w n k g p t e =
+    let h = header-iff L w .0 (of-true (goodHeader L w) t) in
+    record { formed = record { words = rw p (g .long); least = rw p (g .least); most = rw p (g .most); some = rw e (h .least); few = rw e (h .most) }; says = sym e }
 
 -- what a count of pages tells
+pub long : (w : List ℕ) → goodLength L w ≡ true → GoodLength L w
+long w t = length-iff L w .0 (of-true (goodLength L w) t)
+
 pub count-none : (w : List ℕ) (n : ℕ) → n ≡ pageCount w → n ≡ 0 → goodLength L w ≡ false
 count-none w n e z = go (goodLength L w) refl
   where
     go : (b : Bool) → goodLength L w ≡ b → goodLength L w ≡ false
-    go true t = absurd (let g = paged w t in let q : n ≡ pagesIn L w = e ∙ rw t in omega (arith, g .least))
+    go true t = absurd (let g = long w t in let q : n ≡ pagesIn L w = e ∙ rw t in omega (arith, g .least))
     go false t = t
 
-pub count-some : (w : List ℕ) (n : ℕ) → n ≡ pageCount w → (n ≡ 0 → ⊥) → (goodLength L w ≡ true) × Paged w n
+pub count-some : (w : List ℕ) (n : ℕ) → n ≡ pageCount w → (n ≡ 0 → ⊥) → (goodLength L w ≡ true) × (n ≡ pagesIn L w)
 count-some w n e z = go (goodLength L w) refl
   where
-    go : (b : Bool) → goodLength L w ≡ b → (goodLength L w ≡ true) × Paged w n
-    go true t = (t, rw (e, t) (paged w t))
+    go : (b : Bool) → goodLength L w ≡ b → (goodLength L w ≡ true) × (n ≡ pagesIn L w)
+    go true t = (t, e ∙ rw t)
     go false t = absurd (z (e ∙ rw t))
 
 pub both : (a b : Bool) → (a && b) || (not a && not b) ≡ eqb (bit a) (bit b)
@@ -59,9 +56,9 @@ both true false = refl
 both false true = refl
 both false false = refl
 
-pub zero-rest : (w : List ℕ) (n : ℕ) → Paged w n → allZero w 5 27 ≡ every (eqb 0) (drop 5 (page L w 0))
-zero-rest w n g =
-    let z : length w ≡ 32 * n = g .words in
+pub zero-rest : (w : List ℕ) → GoodLength L w → allZero w 5 27 ≡ every (eqb 0) (drop 5 (page L w 0))
+zero-rest w g =
+    let z : length w ≡ 32 * pagesIn L w = g .long in
     every-by (eqb 0) 27 (λ i. getD w i 0) 5 true
     ∙ ap (every (eqb 0)) (keys-by 27 0 5 w (λ i. getD w i 0) (λ d. ap (λ (i : ℕ). getD w i 0) (sym (zero-add d))) (omega (arith, g .least)) ∙ sym (page-rest L w 0 5))
 

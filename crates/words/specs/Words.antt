@@ -10,6 +10,7 @@ use Rattle.kdb.specs.Box.{Box, Key, sides}
 use Rattle.kdb.specs.Pages.{regionsPer, pointsPer}
 use Rattle.kdb.specs.Pool.{domains, pagesIn, goodLength}
 use Rattle.kdb.specs.Calls.{L}
+use Rattle.kdb.specs.declared.Form.{Form}
 use Rattle.words.specs.Loops.{allBy}
 
 -- word i of page j
@@ -20,18 +21,18 @@ wordAt w j i = getD w (L * j + i) 0
 abbrev pub pageCount : List ℕ → ℕ
 pageCount w = cond (goodLength L w) (pagesIn L w) 0
 
--- the pool is n pages, 2 to 512
-pub record Paged (w : List ℕ) (n : ℕ) : Type 0 where
-  pub words : length w ≡ L * n
-  pub least : 2 ≤ n
-  pub most : n ≤ 512
+-- the words are a pool of form f: 2 to 512 pages, 1 to 4 domains
+pub record Formed (w : List ℕ) (f : Form) : Type 0 where
+  pub words : length w ≡ L * f .pages
+  pub least : 2 ≤ f .pages
+  pub most : f .pages ≤ 512
+  pub some : 1 ≤ f .domains
+  pub few : f .domains ≤ 4
 
--- n pages and k domains, 1 to 4
-pub record Fit (w : List ℕ) (n k : ℕ) : Type 0 where
-  pub paged : Paged w n
-  pub says : domains w ≡ k
-  pub least : 1 ≤ k
-  pub few : k ≤ 4
+-- and its header says so
+pub record Fit (w : List ℕ) (f : Form) : Type 0 where
+  pub formed : Formed w f
+  pub says : domains w ≡ f .domains
 
 -- the n words from a on are 0
 abbrev pub zeroAt : List ℕ → ℕ → ℕ → Bool

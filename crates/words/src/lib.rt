@@ -3,9 +3,9 @@ ghost use mathlib.Core.Path.{_≡_};
 ghost use Prim.Native.Nat.{_+_, _*_, _-_, _≤_, _<_, _^_, min, max};
 ghost use lib.ListN.{length, getD, set, replicate};
 ghost use lib.Seq.{sets};
-ghost use Rattle.kdb.specs.Pool.{goodHeader};
+ghost use Rattle.kdb.specs.Pool.{pagesIn, goodHeader, GoodLength};
 ghost use Rattle.kdb.specs.Calls.{L, finite};
-ghost use Rattle.words.specs.Words.{wordAt, pageCount, Paged, capacityOf, pointAt, pointLocation, lowestFree, allZero, RegionIn, RecordIn};
+ghost use Rattle.words.specs.Words.{wordAt, pageCount, capacityOf, pointAt, pointLocation, lowestFree, allZero, RegionIn, RecordIn};
 
 // Regions and points a page, by K from 1 to 4.
 const CAPACITIES: [[u32; 4]; 2] = [[9, 5, 4, 3], [14, 9, 7, 5]];
@@ -93,9 +93,9 @@ pub fn zeros(pool: &[u32], from: usize, to: usize) -> bool
     zeros_in(pool, from, smaller(to, pool.len()))
 }
 
-// The header of a pool of n pages is good.
+// The header of a pool, which is n pages long, is good.
 pub fn good_header(pool: &[u32], n: usize) -> bool
-    requires { ⌜ Paged (now pool) n ⌝ }
+    requires { ⌜ GoodLength L (now pool) × (n ≡ pagesIn L (now pool)) ⌝ }
     ensures { λ r. ⌜ r ≡ goodHeader L (now (pool .entry)) ⌝ }
 {
     let k = read(pool, 0);
