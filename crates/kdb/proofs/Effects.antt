@@ -13,6 +13,7 @@ use Rattle.kdb.specs.Box.{Key, whole, within}
 use Rattle.kdb.specs.Tree.{Rec, State, Tree, records, recordsOf}
 use Rattle.kdb.specs.Steps.{removed}
 use Rattle.kdb.specs.Shape.{WellFormed}
+use Rattle.kdb.specs.Header.{readHeader}
 use Rattle.kdb.specs.Pool.{domains, pagesIn, goodLength, goodHeader, Sound}
 use Rattle.kdb.specs.Print.{printed, stateOf, sound}
 use Rattle.kdb.specs.Walk.{Spot, End, rootless, bad, absent, here, findWalk}
@@ -22,7 +23,7 @@ use Rattle.kdb.specs.Demands.{SameRecords, keyed, Formatted, SameSize, M
 use Rattle.kdb.proofs.Lists.{and-l, and-r, and-i, bool, tally-append, to-bit, no-bit, same-refl, In}
 use Rattle.kdb.proofs.Stands.{Stands}
 use Rattle.kdb.proofs.Views.{finite-whole}
-use Rattle.kdb.proofs.Print.{read-state, print-length, print-word}
+use Rattle.kdb.proofs.Print.{read-state, print-length, print-domains, print-says}
 use Rattle.kdb.proofs.Pool.{length-iff, header-iff, print-sound, sound-iff, Sound-stands}
 use Rattle.kdb.proofs.Format.{formatted-printed, none-formed, formatted-is}
 use Rattle.kdb.proofs.Grow.{placed-formed, removed-formed, key-once, Placing, Placed}
@@ -214,8 +215,8 @@ printed-size w v s h f e =
     let N = pagesIn L w in
     record {
       long = ap length e ∙ (print-length L k N s big f ∙ sym (length-iff L w .0 (h .words) .long));
-      domains = ap (λ u. getD u 0 0) e ∙ print-word L k N s big f 0 (omega arith);
-      pages = ap (λ u. getD u 1 0) e ∙ (print-word L k N s big f 1 (omega arith) ∙ sym (header-iff L w .0 (h .header) .size));
+      domains = ap domains e ∙ print-domains L k N s big f;
+      pages = ap (λ u. readHeader u .pages) e ∙ (ap (λ h. h .pages) (print-says L k N s big f) ∙ sym (header-iff L w .0 (h .header) .size));
     }
 
 pub does-size : (w : List ℕ) (e : Effect) (v : List ℕ) → T (sized e) → Does w e v → SameSize w v

@@ -11,6 +11,7 @@ pub mod Wanting
 pub mod Stands
 pub mod Calls
 pub mod Pages
+pub mod Header
 pub mod Views
 pub mod Print
 pub mod Walk

@@ -6,17 +6,19 @@ use mathlib.Core.Path.{_≡_, refl, sym, ap, ap₂, _∙_, subst}
 use Prim.Native.Nat.{ℕ, zero, suc, _+_, _-_, _*_, _/_, _%_, _<_, _≤_}
 use native.Mathlib.Omega.{arith}
 use lib.Dec.{T, leb, ltb, eqb, leb→le, nleb→lt, ltb→lt, nltb→le}
-use lib.ListN.{length, take, drop, getD, length-take, length-append}
-use lib.Seq.{take-all, take-append-le, getD-take, getD-drop}
+use lib.ListN.{length, take, drop, length-take, length-append}
+use lib.Seq.{take-all, take-append-le}
 use borrow.Author.Tests.{le-ltb}
-use Rattle.kdb.specs.Lists.{only, many}
+use Rattle.kdb.specs.Lists.{every, only, many}
 use Rattle.kdb.specs.Box.{Box, Key, within, meets, inWindow}
+use Rattle.kdb.specs.Header.{readHeader}
 use Rattle.kdb.specs.Pages.{Ent, Page, blank, recsIn, entsIn, isPoints, isRegions, pointsPer, regionsPer, readPage, page}
-use Rattle.kdb.specs.Pool.{domains, rootAt, levelsAt, pagesIn, view, goodLength, goodHeader, isPage}
+use Rattle.kdb.specs.Pool.{domains, rootAt, levelsAt, pagesIn, view, goodLength, goodWords, goodHeader, isPage}
 use Rattle.kdb.specs.Walk.{spots, Tour, still, astray, badAt, readAt, follow, through, goodPoints, goodRegions, tour, bounded, listWalk, rootless, bad, here, Search, ends, after, spotOf, into, seek, findWalk}
 use Rattle.kdb.specs.Calls.{L, Call, Buffers, Outcome, Test, unless, judge, allHold, tests, core, lent, outcome, begins, Route, noWalk, toPoint, overWindow, row, readOn, walkOf}
 use Rattle.kdb.specs.Demands.{Agree, Told, walks, Local}
-use Rattle.kdb.proofs.Length.{four}
+use Rattle.kdb.proofs.Length.{big}
+use Rattle.kdb.proofs.Header.{read-page}
 use Rattle.kdb.proofs.Walk.{walk-begun}
 use Rattle.kdb.proofs.Lawful.{SameWalk, SameRow, lawful}
 use Rattle.kdb.proofs.Lists.{and-i, bool, cases, is-true, self, tally-front, take-past, take-less, many-append}
@@ -185,44 +187,41 @@ bounded-seen Q L w N t =
     cases (λ z. ((j : ℕ) → 1 ≤ many j (cond z t (record { read = take (N - 1) (t .read); bad = true; found = [] }) .read) → Q j) → Seen Q (N - 1) (t .read)) (ltb (length (t .read)) N)
     (λ h q j i. let l = ltb→lt (length (t .read)) N h in q j (rw (take-all (N - 1) (t .read) (omega arith)) at i)) (λ _ q. q)
 
--- the words of page 0 are the pool's first
-header-word : (L : ℕ) (w : List ℕ) (i : ℕ) → i < L → getD (page L w 0) i 0 ≡ getD w i 0
-header-word L w i h = let e : L * 0 + i ≡ i = omega arith in getD-take L (drop (L * 0) w) i 0 h ∙ getD-drop (L * 0) w i 0 ∙ ap (λ n. getD w n 0) e
-
-module _ (L : ℕ) (four : 4 ≤ L) (w w′ : List ℕ) where
-  agree-word : (read : List ℕ) → Agree L w w′ read → (i : ℕ) → i < 4 → getD w′ i 0 ≡ getD w i 0
-  agree-word read a i h = sym (header-word L w′ i (omega arith)) ∙ ap (λ l. getD l i 0) (a .header) ∙ header-word L w i (omega arith)
+module _ (L : ℕ) (big : 5 ≤ L) (w w′ : List ℕ) where
+  -- the same page 0 says the same
+  same-head : page L w′ 0 ≡ page L w 0 → readHeader w′ ≡ readHeader w
+  same-head e = sym (read-page L big w′) ∙ (ap readHeader e ∙ read-page L big w)
 
   agree-view : (read : List ℕ) → Agree L w w′ read → (j : ℕ) → 1 ≤ many j read → view L w′ j ≡ view L w j
   agree-view read a j h =
       ap (λ n. cond (leb 1 j && ltb j (n / L)) (readPage (domains w′) (page L w′ j)) blank) (a .long)
-      ∙ ap₂ (λ k u. cond (leb 1 j && ltb j (pagesIn L w)) (readPage k u) blank) (agree-word read a 0 (omega arith)) (a .pages j h)
+      ∙ ap₂ (λ k u. cond (leb 1 j && ltb j (pagesIn L w)) (readPage k u) blank) (ap (λ h. h .domains) (same-head (a .header))) (a .pages j h)
 
   pub list-same : (v : Box) → Agree L w w′ (listWalk L w v .read) → listWalk L w′ v ≡ listWalk L w v
   list-same v a =
       let N = pagesIn L w in
       let pp : pagesIn L w′ ≡ N = ap (λ n. n / L) (a .long) in
-      let word = agree-word (listWalk L w v .read) a in
+      let head = same-head (a .header) in
       let t : ℕ → ℕ → Tour = tour L w′ v in
       let to : listWalk L w′ v ≡ cond (eqb (levelsAt w) 0) still (bounded L w′ N (t (levelsAt w - 1) (rootAt w))) =
       ap (λ n. cond (eqb (levelsAt w′) 0) still (bounded L w′ n (t (levelsAt w′ - 1) (rootAt w′)))) pp
-      ∙ ap₂ (λ l r. cond (eqb l 0) still (bounded L w′ N (t (l - 1) r))) (word 3 (omega arith)) (word 2 (omega arith)) in
+      ∙ ap₂ (λ l r. cond (eqb l 0) still (bounded L w′ N (t (l - 1) r))) (ap (λ h. h .levels) head) (ap (λ h. h .root) head) in
       to ∙ cases (λ z. ((j : ℕ) → 1 ≤ many j (cond z still (bounded L w N (tour L w v (levelsAt w - 1) (rootAt w))) .read) → view L w′ j ≡ view L w j)
       → cond z still (bounded L w′ N (t (levelsAt w - 1) (rootAt w))) ≡ cond z still (bounded L w N (tour L w v (levelsAt w - 1) (rootAt w)))) (eqb (levelsAt w) 0)
       (λ _ _. refl)
-      (λ _ s. bounded-near L w w′ N _ _ (tour-near L w w′ pp (word 0 (omega arith)) v (levelsAt w - 1) (rootAt w) (N - 1)
+      (λ _ s. bounded-near L w w′ N _ _ (tour-near L w w′ pp (ap (λ h. h .domains) head) v (levelsAt w - 1) (rootAt w) (N - 1)
       (bounded-seen (λ j. view L w′ j ≡ view L w j) L w N (tour L w v (levelsAt w - 1) (rootAt w)) s)))
       (agree-view (listWalk L w v .read) a)
 
   pub find-same : (p : Key) → Agree L w w′ (findWalk L w p .read) → findWalk L w′ p ≡ findWalk L w p
   find-same p a =
       let pp : pagesIn L w′ ≡ pagesIn L w = ap (λ n. n / L) (a .long) in
-      let word = agree-word (findWalk L w p .read) a in
+      let head = same-head (a .header) in
       let s : ℕ → ℕ → Search = seek L w′ p in
-      ap₂ (λ l r. cond (eqb l 0) (ends [] rootless) (s (l - 1) r)) (word 3 (omega arith)) (word 2 (omega arith))
+      ap₂ (λ l r. cond (eqb l 0) (ends [] rootless) (s (l - 1) r)) (ap (λ h. h .levels) head) (ap (λ h. h .root) head)
       ∙ cases (λ z. ((j : ℕ) → 1 ≤ many j (cond z (ends [] rootless) (seek L w p (levelsAt w - 1) (rootAt w)) .read) → view L w′ j ≡ view L w j)
       → cond z (ends [] rootless) (s (levelsAt w - 1) (rootAt w)) ≡ cond z (ends [] rootless) (seek L w p (levelsAt w - 1) (rootAt w))) (eqb (levelsAt w) 0)
-      (λ _ _. refl) (λ _. seek-same L w w′ pp (word 0 (omega arith)) p (levelsAt w - 1) (rootAt w))
+      (λ _ _. refl) (λ _. seek-same L w w′ pp (ap (λ h. h .domains) head) p (levelsAt w - 1) (rootAt w))
       (agree-view (findWalk L w p .read) a)
 
 -- the tests that a call makes before its walk look at nothing but length and header
@@ -230,14 +229,9 @@ same-length : (L : ℕ) (w w′ : List ℕ) → length w′ ≡ length w → goo
 unfolding goodLength
 same-length L w w′ e = ap (λ n. eqb (n % L) 0 && leb 2 (n / L) && leb (n / L) 512) e
 
-same-header : (L : ℕ) (w w′ : List ℕ) → length w′ ≡ length w → page L w′ 0 ≡ page L w 0 → ((i : ℕ) → i < 4 → getD w′ i 0 ≡ getD w i 0) → goodHeader L w′ ≡ goodHeader L w
+same-header : (L : ℕ) → 5 ≤ L → (w w′ : List ℕ) → length w′ ≡ length w → page L w′ 0 ≡ page L w 0 → goodHeader L w′ ≡ goodHeader L w
 unfolding goodHeader
-same-header L w w′ l h f =
-    let e : domains w′ ≡ domains w = f 0 (omega arith) in
-    let e1 : getD w′ 1 0 ≡ getD w 1 0 = f 1 (omega arith) in
-    let e2 : rootAt w′ ≡ rootAt w = f 2 (omega arith) in
-    let e3 : levelsAt w′ ≡ levelsAt w = f 3 (omega arith) in
-    rw (h, l, e, e1, e2, e3)
+same-header L big w w′ l h = ap₂ _&&_ (ap₂ (λ n h. goodWords (n / L) h) l (same-head L big w w′ h)) (ap (λ v. every (eqb 0) (drop 5 v)) h)
 
 judge-told : (ts : List Test) (b b′ : Buffers) (o o′ : Outcome) → b′ .answer ≡ b .answer → (T (allHold ts) → Told o o′) → Told (judge ts b o) (judge ts b′ o′)
 judge-told [] b b′ o o′ d f = f tt
@@ -250,8 +244,8 @@ judge-told (t ∷ ts) b b′ o o′ d f = go (t .holds) (λ h. judge-told ts b b
 -- pools that agree on a walk's pages have the same walk
 route-same : (w w′ : List ℕ) (r : Route) → Agree L w w′ (readOn w r) → SameWalk w w′ r
 route-same w w′ noWalk a = tt
-route-same w w′ (toPoint p) a = find-same L four w w′ p a
-route-same w w′ (overWindow v) a = list-same L four w w′ v a
+route-same w w′ (toPoint p) a = find-same L big w w′ p a
+route-same w w′ (overWindow v) a = list-same L big w w′ v a
 
 read-same : (w w′ : List ℕ) (r : Route) → SameWalk w w′ r → readOn w′ r ≡ readOn w r
 read-same w w′ noWalk s = refl
@@ -260,15 +254,12 @@ read-same w w′ (overWindow v) s = ap (λ t. t .read) s
 
 -- a call with a walk, on pools that agree on its pages
 module _ (w w′ : List ℕ) (c : Call) (t : T (walks (row c .route w))) (a : Agree L w w′ (walkOf w c)) where
-  word : (i : ℕ) → i < 4 → getD w′ i 0 ≡ getD w i 0
-  word = agree-word L four w w′ (walkOf w c) a
-
   alike : SameRow w w′ (row c)
-  alike = lawful c .alike w w′ t (word 0 (omega arith))
+  alike = lawful c .alike w w′ t (ap (λ h. h .domains) (same-head L big w w′ (a .header)))
 
   -- is tested alike
   tests-same : tests w′ c ≡ tests w c
-  tests-same = rw (same-length L w w′ (a .long), same-header L w w′ (a .long) (a .header) word, alike .fits, alike .own)
+  tests-same = rw (same-length L w w′ (a .long), same-header L big w w′ (a .long) (a .header), alike .fits, alike .own)
 
   walk-same : T (begins w c) → SameWalk w w′ (row c .route w)
   walk-same h = route-same w w′ (row c .route w) (subst (Agree L w w′) (walk-begun w c h) a)

@@ -14,17 +14,19 @@ use borrow.Author.Tests.{eq-eqb, ne-eqb}
 use Rattle.kdb.specs.Lists.{bit, every, Each, gather, sum, many, pad, same}
 use Rattle.kdb.specs.Box.{∞, Box, whole, within, solid}
 use Rattle.kdb.specs.Tiling.{Together, Apart}
-use Rattle.kdb.specs.Tree.{Rec, Tree, leaf, node, Forest, fnil, fcons, State, root, boxes, levels, levelsF, pages, pagesF, records, pagesOf, recordsOf}
+use Rattle.kdb.specs.Tree.{Rec, Tree, leaf, node, Forest, fnil, fcons, State, root, boxes, levels, levelsF, pages, pagesF, records, pagesOf, rootOf, levelsOf, recordsOf}
+use Rattle.kdb.specs.Header.{printHeader, readHeader}
 use Rattle.kdb.specs.Shape.{differ, PointPage, RegionPage, Shaped, ShapedF, pointPage, regionPage, shaped, shapedF, Numbered, numbered, ShapedS, shapedS, WellFormed, wellFormed}
 use Rattle.kdb.specs.Pages.{Ent, Page, blank, points, regions, regionsPer, pointsPer, domain, recsIn, entsIn, boxesIn, isPoints, isRegions, inUse, printPage, readRecs, readEnts, readPage, page}
 use Rattle.kdb.specs.Pool.{domains, rootAt, levelsAt, countAt, pagesIn, goodLength, goodHeader, GoodLength, GoodHeader, view, numbers, reachedFrom, reached, Paths, Sound}
-use Rattle.kdb.specs.Print.{ents, pageOf, pageAt, header, forest, printed, treeAt, stateOf, sound}
-use Rattle.kdb.proofs.Lists.{bool, and-l, and-r, and-i, is-true, is-false, of-true, of-bit, self, to-bit, same-eq, same-refl, cond-case, every-each, each-every, each-two, zeros-pad, pad-zeros, sum-same, sum-none}
+use Rattle.kdb.specs.Print.{ents, pageOf, pageAt, headerOf, forest, printed, treeAt, stateOf, sound}
+use Rattle.kdb.proofs.Lists.{bool, and-l, and-r, and-i, is-true, is-false, of-true, of-bit, self, to-bit, same-eq, same-refl, cond-case, every-each, each-every, each-two, sum-same, sum-none}
 use Rattle.kdb.proofs.Tiling.{tiles-iff}
-use Rattle.kdb.proofs.Pages.{page-full, pool-ext, word-at, length-recs, recs-keys, points-fit}
+use Rattle.kdb.proofs.Pages.{page-full, pool-ext, length-recs, recs-keys, points-fit}
 use Rattle.kdb.proofs.Views.{Seen, SeenF, own-seen, page-out, page-in, in-use, among, page-case, boxes-ents, ents-boxes, Under, whole-under, finite-whole, whole-finite, sum-records, recsAt}
-use Rattle.kdb.proofs.Stands.{rootOf, levelsOf, Stands}
-use Rattle.kdb.proofs.Print.{header-words, numbered-ranged, some-levels, levels-few, print-length, print-header, print-page, print-word, stands, stands-seen, stands-tree, stands-state}
+use Rattle.kdb.proofs.Stands.{Stands}
+use Rattle.kdb.proofs.Header.{read-page, print-read, print-zeros}
+use Rattle.kdb.proofs.Print.{numbered-ranged, some-levels, levels-few, print-length, print-header, print-page, print-says, stands, stands-seen, stands-tree, stands-state}
 
 -- the test of a well-formed state
 and-4 : (a b c d : Bool) → T (a && b && c && d) → T a × T b × T c × T d
@@ -147,7 +149,7 @@ module _ (L : ℕ) (w : List ℕ) where
   unfolding goodHeader
   header-iff =
       let k = domains w in let N = pagesIn L w in
-      let a1 = leb 1 k in let a2 = leb k 4 in let a3 = eqb (getD w 1 0) N in let a4 = ltb (rootAt w) N in let a5 = leb (levelsAt w) (N - 1) in
+      let a1 = leb 1 k in let a2 = leb k 4 in let a3 = eqb (readHeader w .pages) N in let a4 = ltb (rootAt w) N in let a5 = leb (levelsAt w) (N - 1) in
       let a6 = eqb (bit (eqb (rootAt w) 0)) (bit (eqb (levelsAt w) 0)) in (
         λ h. let u = and-l (a1 && a2 && a3 && a4 && a5 && a6) _ h in
             let v = and-l (a1 && a2 && a3 && a4 && a5) a6 u in
@@ -155,7 +157,7 @@ module _ (L : ℕ) (w : List ℕ) where
             record {
               least = leb→le 1 k (q .0);
               most = leb→le k 4 (q .1);
-              size = eqb→eq (getD w 1 0) N (q .2);
+              size = eqb→eq (readHeader w .pages) N (q .2);
               root = ltb→lt (rootAt w) N (q .3);
               levels = leb→le (levelsAt w) (N - 1) (and-r (a1 && a2 && a3 && a4) a5 v);
               both = eqb→eq (bit (eqb (rootAt w) 0)) (bit (eqb (levelsAt w) 0)) (and-r (a1 && a2 && a3 && a4 && a5) a6 u);
@@ -164,19 +166,11 @@ module _ (L : ℕ) (w : List ℕ) where
         λ h. and-i (a1 && a2 && a3 && a4 && a5 && a6) _
             (and-i (a1 && a2 && a3 && a4 && a5) a6
             (and-i (a1 && a2 && a3 && a4) a5
-            (and-4i a1 a2 a3 a4 (le→leb 1 k (h .least)) (le→leb k 4 (h .most)) (of-true a3 (eq-eqb (getD w 1 0) N (h .size))) (lt→ltb (rootAt w) N (h .root)))
+            (and-4i a1 a2 a3 a4 (le→leb 1 k (h .least)) (le→leb k 4 (h .most)) (of-true a3 (eq-eqb (readHeader w .pages) N (h .size))) (lt→ltb (rootAt w) N (h .root)))
             (le→leb (levelsAt w) (N - 1) (h .levels)))
             (of-true a6 (eq-eqb (bit (eqb (rootAt w) 0)) (bit (eqb (levelsAt w) 0)) (h .both))))
             (h .zeros),
       )
-
-five-words : (l : List ℕ) → 5 ≤ length l → l ≡ getD l 0 0 ∷ getD l 1 0 ∷ getD l 2 0 ∷ getD l 3 0 ∷ getD l 4 0 ∷ drop 5 l
-five-words [] h = absurd (omega arith)
-five-words (a ∷ []) h = absurd (omega arith)
-five-words (a ∷ b ∷ []) h = absurd (omega arith)
-five-words (a ∷ b ∷ c ∷ []) h = absurd (omega arith)
-five-words (a ∷ b ∷ c ∷ d ∷ []) h = absurd (omega arith)
-five-words (a ∷ b ∷ c ∷ d ∷ e ∷ l) h = refl
 
 -- a state that stands in a pool makes its length and its header good
 module _ (L : ℕ) (big : 5 ≤ L) (w : List ℕ) (s : State) (h : Stands L w s) where
@@ -188,14 +182,13 @@ module _ (L : ℕ) (big : 5 ≤ L) (w : List ℕ) (s : State) (h : Stands L w s)
         most = h .formed .size .1;
       }
 
-  stands-size : getD w 1 0 ≡ pagesIn L w
-  stands-size = ap (λ v. getD v 1 0) (h .prints) ∙ print-word L (domains w) (pagesIn L w) s big (h .formed) 1 (omega arith)
+  stands-size : readHeader w .pages ≡ pagesIn L w
+  stands-size = ap (λ v. readHeader v .pages) (h .prints) ∙ ap (λ h. h .pages) (print-says L (domains w) (pagesIn L w) s big (h .formed))
 
   stands-zeros : T (every (eqb 0) (drop 5 (page L w 0)))
   stands-zeros =
-      let e : page L w 0 ≡ domains w ∷ pagesIn L w ∷ rootOf s ∷ levelsOf s ∷ length (recordsOf s) ∷ pad (L - 5) [] =
-      ap (λ v. page L v 0) (h .prints) ∙ (print-header L (domains w) (pagesIn L w) s big (h .formed) ∙ header-words L (domains w) (pagesIn L w) s big) in
-      subst (λ l. T (every (eqb 0) (drop 5 l))) (sym e) (pad-zeros (L - 5))
+      let e = ap (λ v. page L v 0) (h .prints) ∙ print-header L (domains w) (pagesIn L w) s big (h .formed) in
+      subst (λ l. T (every (eqb 0) (drop 5 l))) (sym e) (print-zeros L big (headerOf (domains w) (pagesIn L w) s))
 
 -- root and levels of a well-formed state
 root-page : (L k N : ℕ) (t : Tree) → WellFormed L k N (some t) → (1 ≤ root t) × (root t < N)
@@ -512,16 +505,11 @@ module _ (L : ℕ) (w : List ℕ) (S : Sound L w) where
       hd : GoodHeader L w
       hd = header-iff L w .0 (S .header)
 
-      word : (i : ℕ) → i < 5 → getD (page L w 0) i 0 ≡ getD w i 0
-      word i h = let e : L * 0 + i ≡ i = omega (arith, mul-zero L) in word-at L w 0 i (omega arith) ∙ ap (λ m. getD w m 0) e
+      says : readHeader w ≡ headerOf k N s
+      says = rw (hd .size, r, l, c)
 
-      top : page L w 0 ≡ pad L (header k N s)
-      top =
-          let full : length (page L w 0) ≡ L = page-full L w N 0 (g .long) (omega (arith, g .least)) in
-          let zs : drop 5 (page L w 0) ≡ pad (L - 5) [] = zeros-pad (drop 5 (page L w 0)) (L - 5) (length-drop 5 (page L w 0) ∙ omega arith) (hd .zeros) in
-          five-words (page L w 0) (omega arith)
-          ∙ (ap₂ _∷_ (word 0 (omega arith)) (ap₂ _∷_ (word 1 (omega arith) ∙ hd .size) (ap₂ _∷_ (word 2 (omega arith) ∙ r) (ap₂ _∷_ (word 3 (omega arith) ∙ l) (ap₂ _∷_ (word 4 (omega arith) ∙ c) zs))))
-          ∙ sym (header-words L k N s big))
+      top : page L w 0 ≡ printHeader L (headerOf k N s)
+      top = print-read L big (page L w 0) (page-full L w N 0 (g .long) (omega (arith, g .least))) (hd .zeros) ∙ ap (printHeader L) (read-page L big w ∙ says)
 
       each : (j : ℕ) → j < N → page L w j ≡ page L (printed L k N s) j
       each zero h = top ∙ sym (print-header L k N s big wf)

@@ -6,21 +6,23 @@ use mathlib.Core.Option.{none, some}
 use mathlib.Core.Path.{_≡_, refl, sym, ap, ap₂, _∙_, subst}
 use Prim.Native.Nat.{ℕ, zero, suc, _+_, _-_, _*_, _/_, _<_, _≤_}
 use native.Mathlib.Omega.{arith}
-use native.Mathlib.Nat.{mul-suc, mul-zero, mul-div-right}
+use native.Mathlib.Nat.{mul-suc, mul-div-right}
 use lib.Dec.{T, T-not, leb, ltb, eqb, leb→le, ltb→lt, le→leb, lt→ltb}
 use lib.ListN.{length, getD, length-append}
 use borrow.Author.Tests.{ne-eqb}
-use Rattle.kdb.specs.Lists.{Each, every, gather, upFrom, pad}
+use Rattle.kdb.specs.Lists.{Each, every, gather, upFrom}
 use Rattle.kdb.specs.Box.{Box, whole, within, solid}
 use Rattle.kdb.specs.Tree.{Rec, Tree, leaf, node, Forest, fnil, fcons, State, root, boxes, levels, pages, pagesOf, recordsOf}
 use Rattle.kdb.specs.Shape.{PointPage, RegionPage, Shaped, ShapedF, Numbered, WellFormed}
+use Rattle.kdb.specs.Header.{headerWords, printHeader, readHeader}
 use Rattle.kdb.specs.Pages.{blank, points, regions, regionsPer, pointsPer, printPage, readPage, page}
 use Rattle.kdb.specs.Pool.{domains, rootAt, levelsAt, countAt, pagesIn, view}
-use Rattle.kdb.specs.Print.{ents, pageOf, pageAt, header, forest, printed, treeAt, stateOf}
+use Rattle.kdb.specs.Print.{ents, pageOf, pageAt, headerOf, forest, printed, treeAt, stateOf}
 use Rattle.kdb.proofs.Lists.{bool, and-l, and-r, each-every, length-pad, is-true, is-false, and-i, Ranged, few}
-use Rattle.kdb.proofs.Pages.{FitsPage, read-page, page-length, page-first, page-next, page-gather, length-pages, word-at}
+use Rattle.kdb.proofs.Pages.{FitsPage, read-page, page-length, page-first, page-next, page-gather, length-pages}
 use Rattle.kdb.proofs.Views.{Seen, SeenF, seen-own, page-out, among, page-case, ents-boxes, Under, whole-under, under-key, under-length, tiles-under, levels-pages}
-use Rattle.kdb.proofs.Stands.{rootOf, levelsOf, Stands}
+use Rattle.kdb.proofs.Stands.{Stands}
+use Rattle.kdb.proofs.Header.{head-says}
 
 -- every page of a well-formed state fits
 fits-free : (L k : ℕ) → FitsPage L k blank
@@ -86,16 +88,6 @@ module _ (k R P L : ℕ) (w : List ℕ) where
     seen-forest fnil n s e = refl
     seen-forest (fcons b t f) n s e = ap₂ (fcons b) (seen-tree t n b (s .0) (e .0)) (seen-forest f n (s .1) (e .1))
 
--- the header's words: five, then zeros
-pub header-words : (L k N : ℕ) (s : State) → 5 ≤ L → pad L (header k N s) ≡ k ∷ N ∷ rootOf s ∷ levelsOf s ∷ length (recordsOf s) ∷ pad (L - 5) []
-header-words L k N s big =
-    let e : L ≡ suc (suc (suc (suc (suc (L - 5))))) = omega arith in
-    ap (λ n. pad n (header k N s)) e ∙ go s
-  where
-    go : (s : State) → pad (suc (suc (suc (suc (suc (L - 5)))))) (header k N s) ≡ k ∷ N ∷ rootOf s ∷ levelsOf s ∷ length (recordsOf s) ∷ pad (L - 5) []
-    go none = refl
-    go (some t) = refl
-
 -- the words printed
 module _ (L k N : ℕ) (s : State) (big : 5 ≤ L) (wf : WellFormed L k N s) where
   abbrev w : List ℕ
@@ -105,39 +97,28 @@ module _ (L k N : ℕ) (s : State) (big : 5 ≤ L) (wf : WellFormed L k N s) whe
   print-length =
       let N1 : N ≡ suc (N - 1) = omega arith in
       let e : L * N ≡ L * (N - 1) + L = ap (λ n. L * n) N1 ∙ mul-suc L (N - 1) in
-      length-append (pad L (header k N s)) (gather (λ c. printPage L (pageAt s c)) (upFrom (N - 1) 1))
-      ∙ omega (arith, length-pad L (header k N s), length-pages L (λ c. printPage L (pageAt s c)) (λ c. page-length L (pageAt s c) (omega arith)) (N - 1) 1)
+      length-append (printHeader L (headerOf k N s)) (gather (λ c. printPage L (pageAt s c)) (upFrom (N - 1) 1))
+      ∙ omega (arith, length-pad L (headerWords (headerOf k N s)), length-pages L (λ c. printPage L (pageAt s c)) (λ c. page-length L (pageAt s c) (omega arith)) (N - 1) 1)
 
   pub print-pagesIn : pagesIn L w ≡ N
   print-pagesIn = let z : 0 < L = omega arith in ap (λ n. n / L) print-length ∙ mul-div-right N z
 
-  pub print-header : page L w 0 ≡ pad L (header k N s)
-  print-header = page-first L (pad L (header k N s)) (gather (λ c. printPage L (pageAt s c)) (upFrom (N - 1) 1)) (length-pad L (header k N s))
+  pub print-header : page L w 0 ≡ printHeader L (headerOf k N s)
+  print-header = page-first L (printHeader L (headerOf k N s)) (gather (λ c. printPage L (pageAt s c)) (upFrom (N - 1) 1)) (length-pad L (headerWords (headerOf k N s)))
 
   pub print-page : (j : ℕ) → 1 ≤ j → j < N → page L w j ≡ printPage L (pageAt s j)
   print-page zero h l = absurd (omega arith)
   print-page (suc c) h l =
       let e : 1 + c ≡ suc c = omega arith in
-      page-next L (pad L (header k N s)) (gather (λ c. printPage L (pageAt s c)) (upFrom (N - 1) 1)) c (length-pad L (header k N s))
+      page-next L (printHeader L (headerOf k N s)) (gather (λ c. printPage L (pageAt s c)) (upFrom (N - 1) 1)) c (length-pad L (headerWords (headerOf k N s)))
       ∙ (page-gather L (λ c. printPage L (pageAt s c)) (λ c. page-length L (pageAt s c) (omega arith)) (N - 1) 1 c (omega arith) ∙ ap (λ j. printPage L (pageAt s j)) e)
 
-  -- the header's words
-  pub print-word : (i : ℕ) → i < 5 → getD w i 0 ≡ getD (k ∷ N ∷ rootOf s ∷ levelsOf s ∷ length (recordsOf s) ∷ pad (L - 5) []) i 0
-  print-word i h =
-      let e : L * 0 + i ≡ i = omega (arith, mul-zero L) in
-      sym (word-at L w 0 i (omega arith) ∙ ap (λ m. getD w m 0) e) ∙ ap (λ l. getD l i 0) (print-header ∙ header-words L k N s big)
+  -- the header that they say
+  pub print-says : readHeader w ≡ headerOf k N s
+  print-says = head-says L big w (headerOf k N s) print-header
 
   pub print-domains : domains w ≡ k
-  print-domains = print-word 0 (omega arith)
-
-  pub print-root : rootAt w ≡ rootOf s
-  print-root = print-word 2 (omega arith)
-
-  pub print-levels : levelsAt w ≡ levelsOf s
-  print-levels = print-word 3 (omega arith)
-
-  pub print-count : countAt w ≡ length (recordsOf s)
-  print-count = print-word 4 (omega arith)
+  print-domains = ap (λ h. h .domains) print-says
 
   pub print-views : (j : ℕ) → view L w j ≡ pageAt s j
   print-views j =
@@ -154,9 +135,9 @@ module _ (L k N : ℕ) (s : State) (big : 5 ≤ L) (wf : WellFormed L k N s) whe
   stands =
       record {
         formed = subst (λ i. WellFormed L i (pagesIn L w) s) (sym print-domains) (subst (λ n. WellFormed L k n s) (sym print-pagesIn) wf);
-        root = print-root;
-        levels = print-levels;
-        count = print-count;
+        root = ap (λ h. h .root) print-says;
+        levels = ap (λ h. h .levels) print-says;
+        count = ap (λ h. h .count) print-says;
         views = print-views;
         prints = ap₂ (λ i n. printed L i n s) (sym print-domains) (sym print-pagesIn);
       }

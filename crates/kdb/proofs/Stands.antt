@@ -1,22 +1,13 @@
 -- A well-formed state stands in a pool's words: the header says it, every page is the state's page, and the words are its printed form.
 -- `Print` shows it of every printed state and `Pool` of every sound pool; the walks and the calls rest on it.
-use mathlib.Core.Option.{none, some}
 use mathlib.Core.List.{List}
 use mathlib.Core.Path.{_≡_}
 use Prim.Native.Nat.{ℕ}
 use lib.ListN.{length}
-use Rattle.kdb.specs.Tree.{State, root, levels, recordsOf}
+use Rattle.kdb.specs.Tree.{State, rootOf, levelsOf, recordsOf}
 use Rattle.kdb.specs.Shape.{WellFormed}
 use Rattle.kdb.specs.Pool.{domains, rootAt, levelsAt, countAt, pagesIn, view}
 use Rattle.kdb.specs.Print.{pageAt, printed}
-
-abbrev pub rootOf : State → ℕ
-rootOf none = 0
-rootOf (some t) = root t
-
-abbrev pub levelsOf : State → ℕ
-levelsOf none = 0
-levelsOf (some t) = levels t
 
 pub record Stands (L : ℕ) (w : List ℕ) (s : State) : Type 0 where
   pub formed : WellFormed L (domains w) (pagesIn L w) s

@@ -4,16 +4,17 @@ use mathlib.Core.Bool.{Bool, true, false, _&&_, not, cond}
 use mathlib.Core.List.{List, [], _∷_, _++_, map}
 use mathlib.Core.Option.{Option, none, some}
 use mathlib.Core.Path.{_≡_}
-use Prim.Native.Nat.{ℕ, _-_, _*_}
+use Prim.Native.Nat.{ℕ, _*_}
 use lib.Dec.{leb, ltb, eqb}
 use lib.ListN.{length, take, drop, replicate}
 use Rattle.kdb.specs.Lists.{every}
 use Rattle.kdb.specs.Box.{∞, Box, Key, sides}
 use Rattle.kdb.specs.Tree.{Rec, State}
 use Rattle.kdb.specs.Steps.{placed, removed}
+use Rattle.kdb.specs.Header.{printHeader}
 use Rattle.kdb.specs.Pages.{regionsPer, pointsPer}
 use Rattle.kdb.specs.Pool.{domains, pagesIn, goodLength, goodHeader}
-use Rattle.kdb.specs.Print.{printed, stateOf, sound}
+use Rattle.kdb.specs.Print.{headerOf, printed, stateOf, sound}
 use Rattle.kdb.specs.Walk.{Spot, Tour, listWalk, End, rootless, bad, absent, here, Search, findWalk}
 use Rattle.kdb.specs.declared.Refusal.{Refusal}
 use Rattle.kdb.specs.declared.Refusal.the-variants.{PoolLength, Domains, BufferLength, InfiniteKey, WindowOrder, Unsound, Present, Absent, NoFreePage}
@@ -112,9 +113,9 @@ windowOf k v = sides (take k v) (drop k v)
 abbrev pub ordered : Box → Bool
 ordered v = every (λ s. leb (s .lo) (s .hi)) v
 
--- format zeroes the pool and writes K and N
+-- format writes the header of an empty index, and zeros up to the pool's end
 abbrev pub formatted : List ℕ → ℕ → List ℕ
-formatted w k = k ∷ pagesIn L w ∷ replicate (length w - 2) 0
+formatted w k = printHeader (length w) (headerOf k (pagesIn L w) none)
 
 -- place: the printed form of the state after Robinson's steps, or 9; the work buffer holds the pool as it stood before the call
 abbrev pub placing : Option State → List ℕ → Outcome

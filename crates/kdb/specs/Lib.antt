@@ -4,6 +4,7 @@ pub mod Tiling
 pub mod Tree
 pub mod Cut
 pub mod Steps
+pub mod Header
 pub mod Pages
 pub mod Shape
 pub mod Pool

@@ -7,25 +7,32 @@ use mathlib.Core.Path.{_≡_}
 use mathlib.Core.Logic.{_↔_}
 use Prim.Native.Nat.{ℕ, zero, suc, _-_, _*_, _/_, _%_, _≤_, _<_}
 use lib.Dec.{T, leb, ltb, eqb}
-use lib.ListN.{length, drop, getD}
+use lib.ListN.{length, drop}
 use Rattle.kdb.specs.Lists.{bit, every, Each, gather, sum, many, upFrom}
 use Rattle.kdb.specs.Box.{∞, Box, whole, within, solid}
 use Rattle.kdb.specs.Tiling.{Apart, Together}
+use Rattle.kdb.specs.Header.{Header, readHeader}
 use Rattle.kdb.specs.Pages.{Ent, Page, blank, regionsPer, pointsPer, domain, recsIn, entsIn, boxesIn, isPoints, isRegions, inUse, printPage, readPage, page}
 use Rattle.kdb.specs.Shape.{differ}
 
--- the header's words
+-- what the header says
 abbrev pub domains : List ℕ → ℕ
-domains w = getD w 0 0
+domains w = readHeader w .domains
 
 abbrev pub rootAt : List ℕ → ℕ
-rootAt w = getD w 2 0
+rootAt w = readHeader w .root
 
 abbrev pub levelsAt : List ℕ → ℕ
-levelsAt w = getD w 3 0
+levelsAt w = readHeader w .levels
 
 abbrev pub countAt : List ℕ → ℕ
-countAt w = getD w 4 0
+countAt w = readHeader w .count
+
+-- K is 1 to 4, word 1 is N, the root is below N, levels are at most N − 1, root and levels are both zero or both not
+abbrev pub goodWords : ℕ → Header → Bool
+goodWords N h =
+    leb 1 (h .domains) && leb (h .domains) 4 && eqb (h .pages) N && ltb (h .root) N && leb (h .levels) (N - 1)
+    && eqb (bit (eqb (h .root) 0)) (bit (eqb (h .levels) 0))
 
 -- the region of the first entry that names page j
 abbrev pub naming : ℕ → List Ent → Option Box
@@ -41,11 +48,9 @@ module _ (L : ℕ) where
   unfoldable pub goodLength : List ℕ → Bool
   goodLength w = eqb (length w % L) 0 && leb 2 (pagesIn w) && leb (pagesIn w) 512
 
-  -- K is 1 to 4, word 1 is N, the root is below N, levels are at most N − 1, root and levels are both zero or both not, the rest is zero
+  -- its words are good, the rest of its page is zero
   unfoldable pub goodHeader : List ℕ → Bool
-  goodHeader w =
-      leb 1 (domains w) && leb (domains w) 4 && eqb (getD w 1 0) (pagesIn w) && ltb (rootAt w) (pagesIn w) && leb (levelsAt w) (pagesIn w - 1)
-      && eqb (bit (eqb (rootAt w) 0)) (bit (eqb (levelsAt w) 0)) && every (eqb 0) (drop 5 (page L w 0))
+  goodHeader w = goodWords (pagesIn w) (readHeader w) && every (eqb 0) (drop 5 (page L w 0))
 
   -- the same, sentence by sentence
   pub record GoodLength (w : List ℕ) : Type 0 where
@@ -56,7 +61,7 @@ module _ (L : ℕ) where
   pub record GoodHeader (w : List ℕ) : Type 0 where
     pub least : 1 ≤ domains w
     pub most : domains w ≤ 4
-    pub size : getD w 1 0 ≡ pagesIn w
+    pub size : readHeader w .pages ≡ pagesIn w
     pub root : rootAt w < pagesIn w
     pub levels : levelsAt w ≤ pagesIn w - 1
     pub both : bit (eqb (rootAt w) 0) ≡ bit (eqb (levelsAt w) 0)

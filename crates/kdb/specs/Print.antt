@@ -6,8 +6,9 @@ use mathlib.Core.Option.{none, some}
 use Prim.Native.Nat.{ℕ, zero, suc, _-_}
 use lib.Dec.{eqb}
 use lib.ListN.{length}
-use Rattle.kdb.specs.Lists.{gather, upFrom, pad, same}
-use Rattle.kdb.specs.Tree.{Tree, leaf, node, Forest, fnil, fcons, State, root, levels, records}
+use Rattle.kdb.specs.Lists.{gather, upFrom, same}
+use Rattle.kdb.specs.Tree.{Tree, leaf, node, Forest, fnil, fcons, State, root, rootOf, levelsOf, recordsOf}
+use Rattle.kdb.specs.Header.{Header, printHeader}
 use Rattle.kdb.specs.Pages.{Ent, Page, blank, points, regions, domain, recsIn, entsIn, printPage}
 use Rattle.kdb.specs.Shape.{wellFormed}
 use Rattle.kdb.specs.Pool.{domains, rootAt, levelsAt, pagesIn, goodLength, goodHeader, view}
@@ -36,10 +37,9 @@ abbrev pub pageAt : State → ℕ → Page
 pageAt none c = blank
 pageAt (some t) c = pageOf t c
 
--- K, N, the root, the levels, the number of records
-abbrev pub header : ℕ → ℕ → State → List ℕ
-header k N none = k ∷ N ∷ []
-header k N (some t) = k ∷ N ∷ root t ∷ levels t ∷ length (records t) ∷ []
+-- the header of a state of k domains on N pages
+abbrev pub headerOf : ℕ → ℕ → State → Header
+headerOf k N s = record { domains = k; pages = N; root = rootOf s; levels = levelsOf s; count = length (recordsOf s) }
 
 abbrev pub forest : (ℕ → Tree) → List Ent → Forest
 forest below [] = fnil
@@ -49,7 +49,7 @@ forest below (e ∷ es) = fcons (e .box) (below (e .child)) (forest below es)
 module _ (L : ℕ) where
   -- the state of k domains on N pages: the header, then each page at its number
   abbrev pub printed : ℕ → ℕ → State → List ℕ
-  printed k N s = pad L (header k N s) ++ gather (λ c. printPage L (pageAt s c)) (upFrom (N - 1) 1)
+  printed k N s = printHeader L (headerOf k N s) ++ gather (λ c. printPage L (pageAt s c)) (upFrom (N - 1) 1)
 
   -- the tree of page j, n levels above the point pages
   abbrev pub treeAt : List ℕ → ℕ → ℕ → Tree

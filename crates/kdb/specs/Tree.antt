@@ -70,3 +70,12 @@ pagesOf (some t) = pages t
 abbrev pub recordsOf : State → List Rec
 recordsOf none = []
 recordsOf (some t) = records t
+
+-- the root's number and the levels, none without a tree
+abbrev pub rootOf : State → ℕ
+rootOf none = 0
+rootOf (some t) = root t
+
+abbrev pub levelsOf : State → ℕ
+levelsOf none = 0
+levelsOf (some t) = levels t

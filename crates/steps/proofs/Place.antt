@@ -17,7 +17,8 @@ use Rattle.kdb.specs.Steps.{freeOf, Up, failed, fits, parts, grow, newRoot, top
 use Rattle.kdb.specs.Pages.{regionsPer, pointsPer, layout, wordsR, wordsE, page}
 use Rattle.kdb.specs.Pool.{domains, pagesIn}
 use Rattle.kdb.specs.Shape.{WellFormed}
-use Rattle.kdb.specs.Print.{printed}
+use Rattle.kdb.specs.Print.{headerOf, printed}
+use Rattle.kdb.specs.Header.{printHeader, rooted}
 use Rattle.kdb.proofs.Lists.{none-of, many-append}
 use Rattle.kdb.proofs.Tiling.{part-length}
 use Rattle.kdb.proofs.Pages.{rec-length, ent-length, points-fit, regions-fit}
@@ -25,10 +26,10 @@ use Rattle.kdb.proofs.Views.{whole-under, whole-length}
 use Rattle.kdb.proofs.Print.{some-levels}
 use Rattle.kdb.proofs.Stands.{Stands}
 use Rattle.kdb.proofs.Fair.{Fair}
-use Rattle.steps.specs.Machine.{Passed, appendIn, freshIn}
+use Rattle.steps.specs.Machine.{Passed, headIn, appendIn, freshIn}
 use Rattle.steps.specs.Claim.{claimIn}
 use Rattle.steps.specs.Grow.{short, fine, broke, Grown, growIn}
-use Rattle.steps.specs.Place.{headIn, space, rootIn, toppedIn, firstIn, restored, placeIn}
+use Rattle.steps.specs.Place.{space, rootIn, toppedIn, firstIn, restored, placeIn}
 use Rattle.steps.proofs.Machine.{append}
 use Rattle.steps.proofs.Entry.{ent, entry-left, entry-right, entry-child-set}
 use Rattle.steps.proofs.Held.{Holds, frame, Fits}
@@ -112,9 +113,11 @@ module _ (L k N : ℕ) (s : State) (w : List ℕ) (big : 5 ≤ L) (wf : WellForm
   finish t1 n1 w1 free wf1 fit held long count fewer keep r l m er el em =
       let high : levels t1 - 1 ≡ n1 = one-height k R P t1 n1 (levels t1 - 1) (whole k) fit (wf1 .shape) in
       let z : many 0 (pages t1) ≡ 0 = none-of (many 0 (pages t1)) (λ i. let v = wf1 .numbered .inside 0 i in omega (arith, v .0)) in
-      let o = head-set L big w1 k N s t1 (keep 0 z ∙ stood-head L k N s w big wf is) r l m er (omega (arith, el, high, some-levels t1)) em in
+      let o = head-set L big w1 (headerOf k N s) (keep 0 z ∙ stood-head L k N s w big wf is) r l m in
+      let lv : l ≡ levels t1 = omega (arith, el, high, some-levels t1) in
+      let tops : rooted (headerOf k N s) r l m ≡ headerOf k N (some t1) = rw (er, lv, em) in
       let not-head : (c : ℕ) → 1 ≤ c → bit (eqb c 0) ≡ 0 = λ c h. ap bit (ne-eqb c 0 (λ z. omega arith)) in
-      stood-back L k N t1 (headIn w1 r l m) big wf1 (o .long ∙ (long ∙ stood-length L k N s w big wf is)) (o .here)
+      stood-back L k N t1 (headIn w1 r l m) big wf1 (o .long ∙ (long ∙ stood-length L k N s w big wf is)) (o .here ∙ ap (printHeader L) tops)
       (frame L (page L w1) (page L (headIn w1 r l m)) t1 (λ c i. o .there c (not-head c (wf1 .numbered .inside c i .0))) held)
       (λ c h i z. o .there c (not-head c h) ∙ (keep c z ∙ stood-blank L k N s w big wf is c h i (omega (arith, count c, fewer c))))
 

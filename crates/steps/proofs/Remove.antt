@@ -17,23 +17,25 @@ use Rattle.kdb.specs.Box.{Key, whole, within}
 use Rattle.kdb.specs.Tree.{Rec, Tree, leaf, node, Forest, fnil, fcons, State, root, levels, levelsF, pages, pagesF, records, recordsF}
 use Rattle.kdb.specs.Steps.{without, remove, removeF, removed}
 use Rattle.kdb.specs.Pages.{points, regions, layout, recsIn, entsIn, regionsPer, pointsPer, wordsR, printPage, page}
-use Rattle.kdb.specs.Pool.{domains, countAt, pagesIn, view, isPage}
+use Rattle.kdb.specs.Pool.{domains, rootAt, levelsAt, countAt, pagesIn, view, isPage}
 use Rattle.kdb.specs.Walk.{Spot, spots, goodPoints, goodRegions, rootless, bad, here, Search, ends, after, spotOf, into, seek, findWalk}
 use Rattle.kdb.specs.Shape.{WellFormed}
-use Rattle.kdb.specs.Print.{ents, header, printed}
+use Rattle.kdb.specs.Header.{printHeader, rooted}
+use Rattle.kdb.specs.Print.{ents, headerOf, printed}
 use Rattle.kdb.proofs.Lists.{bool, is-true, is-false, choice-true, choice-false, no-bit, self, append-each, gather-append, many-append, length-pad, pad-nil, sets-append, pad-gap}
 use Rattle.kdb.proofs.Pages.{rec-length, points-fit}
 use Rattle.kdb.proofs.Views.{Seen, SeenF, whole-under}
-use Rattle.kdb.proofs.Print.{some-levels, header-words, stands-seen}
+use Rattle.kdb.proofs.Print.{some-levels, stands-seen}
+use Rattle.kdb.proofs.Header.{head-says}
 use Rattle.kdb.proofs.Stands.{Stands}
-use Rattle.steps.specs.Machine.{word}
+use Rattle.steps.specs.Machine.{word, headIn}
 use Rattle.steps.specs.Remove.{downIn, closeIn, removeIn}
 use Rattle.steps.proofs.Machine.{Wrote, wrote, length-layout, layout-sets}
 use Rattle.steps.proofs.Entry.{ent}
 use Rattle.steps.proofs.Held.{Holds, HoldsF, frame, frameF, Keys, Fits, FitsF, records-length}
 use Rattle.steps.proofs.Split.{word-of}
 use Rattle.steps.proofs.Grow.{page-words}
-use Rattle.steps.proofs.Stood.{shaped-fits, stood-head, stood-length, stood-blank, stood-held, stood-back}
+use Rattle.steps.proofs.Stood.{shaped-fits, stood-head, stood-length, stood-blank, stood-held, stood-back, head-set}
 
 -- words moved down are the words that stood above
 down : (wd n : ℕ) (w : List ℕ) (a : ℕ) → a + wd + n ≤ length w → downIn wd n w a ≡ sets w a (take n (drop (a + wd) w))
@@ -256,7 +258,7 @@ module _ (L k R P : ℕ) (w : List ℕ) (p : Key) (sp : Spot) where
 -- the record's page, and then the header's count
 module _ (L k N : ℕ) (t : Tree) (w : List ℕ) (big : 5 ≤ L) (wf : WellFormed L k N (some t)) (is : w ≡ printed L k N (some t)) (p : Key) (sp : Spot) (wf′ : WellFormed L k N (some (remove t p))) where
   remove-tree : Gone L k (regionsPer L k) (pointsPer L k) w p sp t → (count : ℕ) → count ≡ length (records t)
-      → set (closeIn L (k + 1) w (sp .page) (L * sp .page + 4 + sp .slot * (k + 1))) 4 (count - 1) ≡ printed L k N (some (remove t p))
+      → (let v = closeIn L (k + 1) w (sp .page) (L * sp .page + 4 + sp .slot * (k + 1)) in headIn v (rootAt v) (levelsAt v) (count - 1)) ≡ printed L k N (some (remove t p))
   remove-tree o count n =
       let wd = k + 1 in
       let s = o .slot in
@@ -279,16 +281,16 @@ module _ (L k N : ℕ) (t : Tree) (w : List ℕ) (big : 5 ≤ L) (wf : WellForme
       (ap length (sym fl) ∙ (records-length k all (s .keys) ∙ ap (λ i. i * wd) n1)) room (omega arith) in
       let here1 : page L w1 c ≡ printPage L (points e (s .before ++ s .behind)) = o1 .here ∙ ap (layout L 2 m e) (sym fl2) in
       let held1 : Holds L (page L w1) (remove t p) = o .held (page L w1) (here1, o1 .there) in
-      let z : L * 0 + 4 ≡ 4 = omega (arith, mul-zero L) in
-      let w2 = set w1 4 (count - 1) in
-      let o2 : Wrote L w1 0 (set (page L w1 0) 4 (count - 1)) w2 = subst (λ i. Wrote L w1 0 (set (page L w1 0) 4 (count - 1)) (set w1 i (count - 1))) z (wrote L w1 0 4 ((count - 1) ∷ []) (omega arith)) in
       let low : 1 ≤ c = wf .numbered .inside c (o .inside) .0 in
-      let h0 : page L w1 0 ≡ k ∷ N ∷ root t ∷ levels t ∷ length (records t) ∷ pad (L - 5) [] =
-      o1 .there 0 (ap bit (ne-eqb 0 c (λ v. omega arith))) ∙ (stood-head L k N (some t) w big wf is ∙ header-words L k N (some t) big) in
+      let h0 = o1 .there 0 (ap bit (ne-eqb 0 c (λ v. omega arith))) ∙ stood-head L k N (some t) w big wf is in
+      let w2 = headIn w1 (rootAt w1) (levelsAt w1) (count - 1) in
+      let o2 = head-set L big w1 (headerOf k N (some t)) h0 (rootAt w1) (levelsAt w1) (count - 1) in
+      let says = head-says L big w1 (headerOf k N (some t)) h0 in
+      let er : rootAt w1 ≡ root (remove t p) = ap (λ h. h .root) says ∙ sym (o .root) in
+      let el : levelsAt w1 ≡ levels (remove t p) = ap (λ h. h .levels) says ∙ sym (o .levels) in
       let less : count - 1 ≡ length (records (remove t p)) = omega (arith, o .fewer) in
-      let head : page L w2 0 ≡ pad L (header k N (some (remove t p))) =
-      o2 .here ∙ (ap (λ v. set v 4 (count - 1)) h0 ∙ (ap (λ i. k ∷ N ∷ root t ∷ levels t ∷ i ∷ pad (L - 5) []) less
-      ∙ (ap₂ (λ i j. k ∷ N ∷ i ∷ j ∷ length (records (remove t p)) ∷ pad (L - 5) []) (sym (o .root)) (sym (o .levels)) ∙ sym (header-words L k N (some (remove t p)) big)))) in
+      let tops : rooted (headerOf k N (some t)) (rootAt w1) (levelsAt w1) (count - 1) ≡ headerOf k N (some (remove t p)) = rw (er, el, less) in
+      let head = o2 .here ∙ ap (printHeader L) tops in
       let not-head : (c : ℕ) → 1 ≤ c → bit (eqb c 0) ≡ 0 = λ c h. ap bit (ne-eqb c 0 (λ v. omega arith)) in
       stood-back L k N (remove t p) w2 big wf′ (o2 .long ∙ (o1 .long ∙ stood-length L k N (some t) w big wf is)) head
       (frame L (page L w1) (page L w2) (remove t p) (λ c i. o2 .there c (not-head c (wf′ .numbered .inside c i .0))) held1)

@@ -15,15 +15,16 @@ use Rattle.kdb.specs.Lists.{every, many, Each, pad}
 use Rattle.kdb.specs.Box.{Box, within, solid}
 use Rattle.kdb.specs.Tree.{Tree, leaf, node, Forest, fnil, fcons, State, root, boxes, levels, pages, pagesF, pagesOf, recordsOf}
 use Rattle.kdb.specs.Steps.{freeOf}
+use Rattle.kdb.specs.Header.{Header, headerWords, printHeader, readHeader, rooted}
 use Rattle.kdb.specs.Pages.{Page, blank, points, regions, inUse, printPage, page}
 use Rattle.kdb.specs.Shape.{Shaped, ShapedF, Numbered, WellFormed}
-use Rattle.kdb.specs.Print.{orPage, pageOf, pageOfF, pageAt, header, printed}
+use Rattle.kdb.specs.Print.{orPage, pageOf, pageOfF, pageAt, headerOf, printed}
 use Rattle.kdb.proofs.Lists.{and-l, and-r, each-every, self, many-append, only-same, only-in, only-once}
 use Rattle.kdb.proofs.Pages.{word-at, pool-ext}
 use Rattle.kdb.proofs.Views.{Seen, SeenF, seen-own, at, among, page-in, page-out, or-first, Under, under-key, under-length, tiles-under}
-use Rattle.kdb.proofs.Print.{print-length, print-header, print-page, header-words}
-use Rattle.steps.specs.Machine.{word}
-use Rattle.steps.specs.Place.{headIn}
+use Rattle.kdb.proofs.Print.{print-length, print-header, print-page}
+use Rattle.kdb.proofs.Header.{head-says, print-over}
+use Rattle.steps.specs.Machine.{word, headIn}
 use Rattle.steps.proofs.Machine.{Wrote, wrote}
 use Rattle.steps.proofs.Held.{Holds, HoldsF, Fits, FitsF, size-boxes}
 use Rattle.steps.proofs.Claim.{Free}
@@ -103,7 +104,7 @@ module _ (L k N : ℕ) (s : State) (w : List ℕ) (big : 5 ≤ L) (wf : WellForm
   stood-page : (j : ℕ) → 1 ≤ j → j < N → page L w j ≡ printPage L (pageAt s j)
   stood-page j h l = ap (λ v. page L v j) is ∙ print-page L k N s big wf j h l
 
-  pub stood-head : page L w 0 ≡ pad L (header k N s)
+  pub stood-head : page L w 0 ≡ printHeader L (headerOf k N s)
   stood-head = ap (λ v. page L v 0) is ∙ print-header L k N s big wf
 
   pub stood-length : length w ≡ L * N
@@ -143,7 +144,7 @@ stood-held L k N t w big wf is =
     (λ c i. let r = wf .numbered .inside c i in stood-page L k N (some t) w big wf is c (r .0) (r .1))
 
 -- words that hold a well-formed tree, with its header and all other pages blank
-pub stood-back : (L k N : ℕ) (t : Tree) (w : List ℕ) → 5 ≤ L → WellFormed L k N (some t) → length w ≡ L * N → page L w 0 ≡ pad L (header k N (some t)) → Holds L (page L w) t
+pub stood-back : (L k N : ℕ) (t : Tree) (w : List ℕ) → 5 ≤ L → WellFormed L k N (some t) → length w ≡ L * N → page L w 0 ≡ printHeader L (headerOf k N (some t)) → Holds L (page L w) t
     → ((c : ℕ) → 1 ≤ c → c < N → many c (pages t) ≡ 0 → page L w c ≡ pad L []) → w ≡ printed L k N (some t)
 stood-back L k N t w big wf long head held rest =
     pool-ext L N w (printed L k N (some t)) long (print-length L k N (some t) big wf) go
@@ -155,15 +156,12 @@ stood-back L k N t w big wf long head held rest =
         (λ i. held-page L (page L w) t held (suc c) i ∙ sym (print-page L k N (some t) big wf (suc c) (omega arith) l))
         (λ z. rest (suc c) (omega arith) l z ∙ (ap (printPage L) (sym (page-out t (suc c) z)) ∙ sym (print-page L k N (some t) big wf (suc c) (omega arith) l)))
 
--- the header's three words
-pub head-set : (L : ℕ) → 5 ≤ L → (w : List ℕ) (k N : ℕ) (s : State) (t : Tree) → page L w 0 ≡ pad L (header k N s) → (r l m : ℕ) → r ≡ root t → l ≡ levels t → m ≡ length (recordsOf (some t))
-    → Wrote L w 0 (pad L (header k N (some t))) (headIn w r l m)
+-- another tree in the header
+pub head-set : (L : ℕ) → 5 ≤ L → (w : List ℕ) (h : Header) → page L w 0 ≡ printHeader L h → (r l m : ℕ) → Wrote L w 0 (printHeader L (rooted h r l m)) (headIn w r l m)
 unfolding headIn
-head-set L big w k N s t h r l m er el em =
-    let z : L * 0 + 2 ≡ 2 = omega (arith, mul-zero L) in
-    let o = wrote L w 0 2 (r ∷ l ∷ m ∷ []) (omega arith) in
-    let e : sets (page L w 0) 2 (r ∷ l ∷ m ∷ []) ≡ pad L (header k N (some t)) =
-    ap (λ v. sets v 2 (r ∷ l ∷ m ∷ [])) (h ∙ header-words L k N s big)
-    ∙ (ap (λ i. k ∷ N ∷ i ∷ l ∷ m ∷ pad (L - 5) []) er ∙ (ap₂ (λ i j. k ∷ N ∷ root t ∷ i ∷ j ∷ pad (L - 5) []) el em ∙ sym (header-words L k N (some t) big))) in
-    subst (λ i. Wrote L w 0 (pad L (header k N (some t))) (sets w i (r ∷ l ∷ m ∷ []))) z
-    (record { here = o .here ∙ e; there = o .there; long = o .long })
+head-set L big w h e r l m =
+    let ws = headerWords (rooted (readHeader w) r l m) in
+    let z : L * 0 + 0 ≡ 0 = omega (arith, mul-zero L) in
+    let o = wrote L w 0 0 ws (omega arith) in
+    let p : sets (page L w 0) 0 ws ≡ printHeader L (rooted h r l m) = ap₂ (λ v g. sets v 0 (headerWords (rooted g r l m))) e (head-says L big w h e) ∙ print-over L big h (rooted h r l m) in
+    subst (λ i. Wrote L w 0 (printHeader L (rooted h r l m)) (sets w i ws)) z (record { here = o .here ∙ p; there = o .there; long = o .long })

@@ -7,6 +7,7 @@ use lib.Dec.{leb}
 use lib.ListN.{getD, set, replicate}
 use lib.Seq.{sets}
 use Rattle.kdb.specs.Lists.{pad}
+use Rattle.kdb.specs.Header.{headerWords, readHeader, rooted}
 use Rattle.kdb.specs.Pages.{page}
 
 -- whether every page wanted was free, and the words
@@ -18,6 +19,10 @@ pub record Passed : Type 0 where
 pub record Claimed : Type 0 where
   pub page : ℕ
   pub words : List ℕ
+
+-- another root, levels and count in the header
+unfoldable pub headIn : List ℕ → ℕ → ℕ → ℕ → List ℕ
+headIn w r l c = sets w 0 (headerWords (rooted (readHeader w) r l c))
 
 module _ (L : ℕ) where
   -- word i of page c

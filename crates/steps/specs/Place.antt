@@ -5,17 +5,12 @@ use mathlib.Core.List.{List, [], _∷_, _++_}
 use Prim.Native.Nat.{ℕ, _+_, _-_, _*_}
 use lib.Dec.{eqb}
 use lib.ListN.{set}
-use lib.Seq.{sets}
 use Rattle.kdb.specs.Box.{Key, whole}
 use Rattle.kdb.specs.Pages.{regionsPer, pointsPer, wordsE}
 use Rattle.kdb.specs.Pool.{domains, rootAt, levelsAt, countAt, pagesIn}
-use Rattle.steps.specs.Machine.{Passed, appendIn}
+use Rattle.steps.specs.Machine.{Passed, headIn, appendIn}
 use Rattle.steps.specs.Claim.{claimIn}
 use Rattle.steps.specs.Grow.{short, fine, broke, Grown, growIn}
-
--- the header's root, levels and count
-unfoldable pub headIn : List ℕ → ℕ → ℕ → ℕ → List ℕ
-headIn w r l c = sets w 2 (r ∷ l ∷ c ∷ [])
 
 -- an entry of the whole space
 abbrev pub space : ℕ → List ℕ

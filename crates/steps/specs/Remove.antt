@@ -4,8 +4,8 @@ use mathlib.Core.List.{List}
 use Prim.Native.Nat.{ℕ, zero, suc, _+_, _-_, _*_}
 use lib.ListN.{getD, set, replicate}
 use lib.Seq.{sets}
-use Rattle.kdb.specs.Pool.{domains, countAt}
-use Rattle.steps.specs.Machine.{word}
+use Rattle.kdb.specs.Pool.{domains, rootAt, levelsAt, countAt}
+use Rattle.steps.specs.Machine.{word, headIn}
 
 -- n words, from word a + wd of the pool on, move down by wd, the first one first
 unfoldable pub downIn : ℕ → ℕ → List ℕ → ℕ → List ℕ
@@ -21,4 +21,6 @@ closeIn L wd w c a =
 
 -- the record in slot i of page c goes
 unfoldable pub removeIn : ℕ → ℕ → ℕ → List ℕ → List ℕ
-removeIn L c i w = set (closeIn L (domains w + 1) w c (L * c + 4 + i * (domains w + 1))) 4 (countAt w - 1)
+removeIn L c i w =
+    let v = closeIn L (domains w + 1) w c (L * c + 4 + i * (domains w + 1)) in
+    headIn v (rootAt v) (levelsAt v) (countAt w - 1)
