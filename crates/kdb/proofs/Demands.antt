@@ -14,8 +14,8 @@ use Rattle.kdb.specs.Pool.{domains, levelsAt, pagesIn, goodLength, goodH
 use Rattle.kdb.specs.Print.{stateOf, sound}
 use Rattle.kdb.specs.Walk.{bad, Search, findWalk, listWalk}
 use Rattle.kdb.specs.Bad.{upToBad, findTrail, listTrail}
-use Rattle.kdb.specs.Calls.{L, Call, format, find, list, Outcome, finite, lent, finding, outcome, windowOf, walkOf, begins, unchanged, row, Promise}
-use Rattle.kdb.specs.History.{answerOf, changed, live, Keeps, over, next}
+use Rattle.kdb.specs.Calls.{L, Call, format, find, list, Outcome, finite, lent, finding, outcome, windowOf, walkOf, begins, Promise}
+use Rattle.kdb.specs.History.{answerOf, unchanged, makes, changed, live, Keeps, over, next}
 use Rattle.kdb.specs.Demands.{SameRecords, keyed, ListsExactly, FindsExactly, ByTheSteps, Built, unbuilt, onto, Demand2, goodWindow, Shares, Demand3, Bounded}
 use Rattle.kdb.proofs.Walk.{walk-pages, walk-silent, walk-find, walk-list, list-returns, find-returns}
 use Rattle.kdb.proofs.Lists.{and-l, and-r}
@@ -43,7 +43,7 @@ pub call-after : (w : List ℕ) (c : Call) → Sound L w → After w c
 call-after w c s = go (outcome w c .number) refl
   where
     go : (n : ℕ) → outcome w c .number ≡ n → After w c
-    go zero e = let d = does-after w (row c .effect) (outcome w c .after .pool) s (done-does w c e) in record { sound = d .0; same = rw e (d .1) }
+    go zero e = let d = does-after w (makes c) (outcome w c .after .pool) s (done-does w c e) in record { sound = d .0; same = rw e (d .1) }
     go (suc n) e =
         let d = does-after w unchanged (outcome w c .after .pool) s (refusal-keeps w c (λ z. omega arith)) in record { sound = d .0; same = rw e (d .1) }
 
@@ -60,7 +60,7 @@ keeps-after (next {w} {v} {c} {cs} {o} {os} p k) rs s e =
 
 -- the steps are Robinson's, for any outcome that keeps its promise
 by-the-steps-of : (w : List ℕ) (c : Call) → ByTheSteps w c (outcome w c)
-by-the-steps-of w c = record { done = λ z. moves w (row c .effect) (outcome w c .after .pool) (done-does w c z); refused = refusal-keeps w c }
+by-the-steps-of w c = record { done = λ z. moves w (makes c) (outcome w c .after .pool) (done-does w c z); refused = refusal-keeps w c }
 
 pub by-the-steps : (w : List ℕ) (c : Call) (o : Outcome) → Promise w c o → ByTheSteps w c o
 by-the-steps w c o p = subst (ByTheSteps w c) (sym (p .kept)) (by-the-steps-of w c)

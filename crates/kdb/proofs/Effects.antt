@@ -17,8 +17,8 @@ use Rattle.kdb.specs.Header.{readHeader}
 use Rattle.kdb.specs.Pool.{domains, pagesIn, goodLength, goodHeader, Sound}
 use Rattle.kdb.specs.Print.{printed, stateOf, sound}
 use Rattle.kdb.specs.Walk.{Spot, End, rootless, bad, absent, here, findWalk}
-use Rattle.kdb.specs.Calls.{L, place, remove, goodDomains, finite, present, formatted, placing, removing, stepped, Effect, unchanged, emptied, added, dropped, begins}
-use Rattle.kdb.specs.History.{change}
+use Rattle.kdb.specs.Calls.{L, place, remove, goodDomains, finite, present, formatted, placing, removing, stepped, begins}
+use Rattle.kdb.specs.History.{Effect, unchanged, emptied, added, dropped, change}
 use Rattle.kdb.specs.Demands.{SameRecords, keyed, Formatted, SameSize, Moves}
 use Rattle.kdb.proofs.Lists.{and-l, and-r, and-i, bool, tally-append, to-bit, no-bit, same-refl, In}
 use Rattle.kdb.proofs.Stands.{Stands}

@@ -9,8 +9,8 @@ use Rattle.kdb.specs.Lists.{bit, tally, same}
 use Rattle.kdb.specs.Box.{Key}
 use Rattle.kdb.specs.Tree.{Rec}
 use Rattle.kdb.specs.Steps.{without}
-use Rattle.kdb.specs.Calls.{Call, Outcome, Effect, unchanged, emptied, added, dropped, row, outcome}
-use Rattle.kdb.specs.History.{answerOf, run, answers, change, changed, Keeps, over, next}
+use Rattle.kdb.specs.Calls.{Call, Outcome, outcome}
+use Rattle.kdb.specs.History.{answerOf, run, answers, Effect, unchanged, emptied, added, dropped, makes, change, changed, Keeps, over, next}
 use Rattle.kdb.specs.Demands.{SameRecords, keyed}
 use Rattle.kdb.proofs.Lists.{and-l, tally-append, tally-imp}
 
@@ -36,7 +36,7 @@ change-same (dropped p) a b once e = λ g.
     omega (arith, e g, e (λ r. same p (r .key) && g r))
 
 pub changed-same : (n : ℕ) (c : Call) (a b : List Rec) → ((p : Key) → tally (keyed p) a ≤ 1) → SameRecords a b → SameRecords (changed n c a) (changed n c b)
-changed-same zero c a b once e = change-same (row c .effect) a b once e
+changed-same zero c a b once e = change-same (makes c) a b once e
 changed-same (suc n) c a b once e = e
 
 -- any code whose calls keep their promises runs as the definitions do

@@ -15,6 +15,7 @@ use Rattle.kdb.specs.Walk.{Spot, End, rootless, bad, absent, here, ends,
 use Rattle.kdb.specs.declared.Refusal.{Refusal}
 use Rattle.kdb.specs.declared.Refusal.the-variants.{WindowOrder, Unsound, Absent, NoFreePage, PoolLength}
 use Rattle.kdb.specs.Calls.{L, Call, format, check, place, remove, find, list, Buffers, alone, lent, Outcome, gives, refuses, numberOf, Test, _or_, allHold, headTests, tests, core, begins, goodDomains, ordered, windowOf, placing, stepped, removing, finding, listing, Route, noWalk, toPoint, overWindow, Row, row, readOn, walkOf, outcome}
+use Rattle.kdb.specs.History.{Effect, makes}
 use Rattle.kdb.specs.Demands.{givenTo, headed, fitting, endsIn, walks, Told}
 use Rattle.kdb.proofs.Lists.{and-l, and-r, cases}
 use Rattle.kdb.proofs.Pool.{length-iff, header-iff}
@@ -143,18 +144,18 @@ list-alike w w′ v answer e =
 abbrev later : Bool → List Test → Bool
 later looks ts = every (λ t. ltb (cond looks 4 1) (numberOf (t .refusal))) ts
 
-abbrev plain : List ℕ → Row → Bool
-plain w r = later (r .headed) (r .own w) && (not (walks (r .route w)) || r .headed) && (not (r .headed) || sized (r .effect))
+abbrev plain : List ℕ → Row → Effect → Bool
+plain w r e = later (r .headed) (r .own w) && (not (walks (r .route w)) || r .headed) && (not (r .headed) || sized e)
 
 pub record Lawful (c : Call) : Type 0 where
   -- the row says what the call is given, and that it is lent the pool
   pub takes : (w : List ℕ) → _≡_ {A = Bool × (Bool × List ℕ)} (headed (givenTo c), (fitting w (givenTo c), endsIn (givenTo c))) (row c .headed, (row c .fits w, row c .ends))
   pub lends : (w : List ℕ) → lent w c .pool ≡ w
-  pub fair : (w : List ℕ) → T (plain w (row c))
+  pub fair : (w : List ℕ) → T (plain w (row c) (makes c))
   -- what it returns, what it does to the pool, and what its answer depends on
   pub proper : (w : List ℕ) → Proper w (row c .returns) (core w c)
   pub fits : (w : List ℕ) → Each Word w → T (begins w c) → Each Word (core w c .values)
-  pub does : (w : List ℕ) → T (begins w c) → core w c .number ≡ 0 → Does w (row c .effect) (core w c .after .pool)
+  pub does : (w : List ℕ) → T (begins w c) → core w c .number ≡ 0 → Does w (makes c) (core w c .after .pool)
   pub alike : (w w′ : List ℕ) → T (walks (row c .route w)) → domains w′ ≡ domains w → SameRow w w′ (row c)
 
 -- find's and list's values are words, in a pool of good length
@@ -246,9 +247,9 @@ walking w c =
     or-r (walks (row c .route w)) (row c .headed)
     (and-r (later (row c .headed) (row c .own w)) _ (and-l (later (row c .headed) (row c .own w) && (not (walks (row c .route w)) || row c .headed)) _ (lawful c .fair w)))
 
-pub sizes : (c : Call) → T (row c .headed) → T (sized (row c .effect))
+pub sizes : (c : Call) → T (row c .headed) → T (sized (makes c))
 sizes c =
-    or-r (row c .headed) (sized (row c .effect))
+    or-r (row c .headed) (sized (makes c))
     (and-r (later (row c .headed) (row c .own []) && (not (walks (row c .route [])) || row c .headed)) _ (lawful c .fair []))
 
 -- So, of every call: the pool is unchanged after every refusal
@@ -273,10 +274,10 @@ unfolding outcome
 outcome-fits w c h = judge-after (λ o. Each Word (o .values)) (tests w c) (lent w c) (core w c) (λ r. tt) (lawful c .fits w h)
 
 -- the effect of a call that is done
-pub done-does : (w : List ℕ) (c : Call) → outcome w c .number ≡ 0 → Does w (row c .effect) (outcome w c .after .pool)
+pub done-does : (w : List ℕ) (c : Call) → outcome w c .number ≡ 0 → Does w (makes c) (outcome w c .after .pool)
 done-does w c z =
     let d = done w c z in
-    subst (λ o. Does w (row c .effect) (o .after .pool)) (sym (d .1)) (lawful c .does w (d .0) (sym (ap (λ o. o .number) (d .1)) ∙ z))
+    subst (λ o. Does w (makes c) (o .after .pool)) (sym (d .1)) (lawful c .does w (d .0) (sym (ap (λ o. o .number) (d .1)) ∙ z))
 
 -- a call that looks at the header and begins has a good one
 pub begun-header : (w : List ℕ) (c : Call) → T (row c .headed) → T (begins w c) → T (goodHeader L w)

@@ -18,7 +18,8 @@ use Rattle.kdb.specs.Pool.{domains, pagesIn, goodLength, goodHeader, vie
 use Rattle.kdb.specs.Print.{stateOf, sound}
 use Rattle.kdb.specs.Walk.{Spot, Tour, End, rootless, bad, absent, here, ends, findWalk, listWalk}
 use Rattle.kdb.specs.declared.Refusal.the-variants.{PoolLength, Domains, BufferLength, InfiniteKey, WindowOrder, Unsound, Present}
-use Rattle.kdb.specs.Calls.{L, Call, format, check, place, remove, find, list, Outcome, Buffers, Test, goodDomains, finite, ordered, windowOf, present, placing, removing, finding, listing, stepped, outcome, begins, walkOf, unless, judge, _or_, lent, tests, core, allHold, headTests, numberOf, row, emptied}
+use Rattle.kdb.specs.Calls.{L, Call, format, check, place, remove, find, list, Outcome, Buffers, Test, goodDomains, finite, ordered, windowOf, present, placing, removing, finding, listing, stepped, outcome, begins, walkOf, unless, judge, _or_, lent, tests, core, allHold, headTests, numberOf, row}
+use Rattle.kdb.specs.History.{emptied, makes}
 use Rattle.kdb.specs.Bad.{listTrail, findStops, listStops, listRecords}
 use Rattle.kdb.specs.Demands.{keyed, goodPoint, givenTo, headed, fitting, endsIn, Headed, Taken, New, lastRecords, slotted, Demand1, SameSize, Leaves}
 use Rattle.kdb.proofs.Lists.{and-l, and-r, and-i, same-refl, In, is-true, of-true, tally-imp, length-upFrom}
@@ -379,7 +380,7 @@ call-size : (w : List ℕ) (c : Call) → T (headed (givenTo c)) → SameSize w 
 call-size w c y = go (outcome w c .number) refl
   where
     go : (n : ℕ) → outcome w c .number ≡ n → SameSize w (outcome w c .after .pool)
-    go zero e = does-size w (row c .effect) (outcome w c .after .pool) (sizes c (of-true (row c .headed) (looks w c y))) (done-does w c e)
+    go zero e = does-size w (makes c) (outcome w c .after .pool) (sizes c (of-true (row c .headed) (looks w c y))) (done-does w c e)
     go (suc n) e = kept-size w (outcome w c .after .pool) (refusal-keeps w c (λ z. omega arith))
 
 -- the buffers after a call

@@ -154,13 +154,6 @@ listing t w answer =
     cond (t .bad) (refuses Unsound (answering (replicate (length answer) 0) w))
     (gives (length (t .found) ∷ length (t .read) ∷ []) (answering (filled answer (t .found)) w))
 
--- what a call that is done makes of the index: nothing; an empty index of K domains; a record more; a record less
-pub data Effect : Type 0 where
-  unchanged : Effect
-  emptied : ℕ → Effect
-  added : Rec → Effect
-  dropped : Key → Effect
-
 -- the walk of a call: none, to a point, or over a window
 pub data Route : Type 0 where
   noWalk : Route
@@ -180,9 +173,8 @@ pub record Row : Type 0 where
   -- its walk, and what it does once its tests hold; it may still be refused
   pub route : List ℕ → Route
   pub core : List ℕ → Outcome
-  -- how many values it returns, and what it makes of the index, where it is done
+  -- how many values it returns where it is done
   pub returns : ℕ
-  pub effect : Effect
 
 -- The table
 abbrev pub row : Call → Row
@@ -196,7 +188,6 @@ row (format k) =
       route = λ w. noWalk;
       core = λ w. gives [] (alone (formatted w k));
       returns = 0;
-      effect = emptied k;
     }
 row check =
     record {
@@ -208,7 +199,6 @@ row check =
       route = λ w. noWalk;
       core = λ w. gives [] (alone w);
       returns = 0;
-      effect = unchanged;
     }
 -- once its tests hold, place may still be refused with 9
 row (place work p l) =
@@ -221,7 +211,6 @@ row (place work p l) =
       route = λ w. noWalk;
       core = λ w. placing (stepped w (record { key = p; loc = l })) w;
       returns = 0;
-      effect = added (record { key = p; loc = l });
     }
 -- remove with 8; its walk never meets a bad page, since its pool is sound
 row (remove p) =
@@ -234,7 +223,6 @@ row (remove p) =
       route = λ w. noWalk;
       core = λ w. removing (findWalk L w p .end) w p;
       returns = 1;
-      effect = dropped p;
     }
 -- find with 6 or 8
 row (find p) =
@@ -247,7 +235,6 @@ row (find p) =
       route = λ w. toPoint p;
       core = λ w. finding (findWalk L w p) (alone w);
       returns = 2;
-      effect = unchanged;
     }
 -- list with 6
 row (list v answer) =
@@ -260,7 +247,6 @@ row (list v answer) =
       route = λ w. overWindow (windowOf (domains w) v);
       core = λ w. listing (listWalk L w (windowOf (domains w) v)) w answer;
       returns = 2;
-      effect = unchanged;
     }
 
 -- the buffers that a call is lent

@@ -19,7 +19,8 @@ use Rattle.kdb.specs.Pool.{domains, levelsAt, pagesIn, GoodLength, GoodH
 use Rattle.kdb.specs.Print.{printed, stateOf}
 use Rattle.kdb.specs.Walk.{listWalk}
 use Rattle.kdb.specs.Bad.{upToBad, findTrail, listTrail, findStops, listStops, listRecords}
-use Rattle.kdb.specs.Calls.{L, Call, format, check, place, remove, find, list, Outcome, finite, windowOf, ordered, stepped, Effect, unchanged, emptied, added, dropped, Route, noWalk, toPoint, overWindow, row, outcome, begins, walkOf, Promise}
+use Rattle.kdb.specs.History.{Effect, unchanged, emptied, added, dropped, makes}
+use Rattle.kdb.specs.Calls.{L, Call, format, check, place, remove, find, list, Outcome, finite, windowOf, ordered, stepped, Route, noWalk, toPoint, overWindow, row, outcome, begins, walkOf, Promise}
 
 -- the same records, each as often: equal counts for every test
 abbrev pub SameRecords : List Rec → List Rec → Type 0
@@ -206,7 +207,7 @@ Moves w (added q) v = (s : State) × (stepped w q ≡ some s) × (v ≡ printed 
 Moves w (dropped p) v = (v ≡ printed L (domains w) (pagesIn L w) (removed (stateOf L w) p)) × (stateOf L v ≡ removed (stateOf L w) p)
 
 pub record ByTheSteps (w : List ℕ) (c : Call) (o : Outcome) : Type 0 where
-  pub done : o .number ≡ 0 → Moves w (row c .effect) (o .after .pool)
+  pub done : o .number ≡ 0 → Moves w (makes c) (o .after .pool)
   pub refused : (o .number ≡ 0 → ⊥) → o .after .pool ≡ w
 
 -- the pool before, the calls, their outcomes, the pool after: each call is by the steps
