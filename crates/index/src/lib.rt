@@ -1,15 +1,15 @@
 // The public calls that write to the pool: format, place and remove. They have no requires: every input has an answer, and the promise
 // says which.
+use kdb::Form;
 use kdb::Refusal;
 use opening::Finished;
-use opening::Opened;
 use opening::open_sound;
 use place::place_in;
 use place::remove_in;
 use walk::Sought;
 use walk::search;
 use words::clear;
-use words::get;
+use words::form_of;
 use words::page_count;
 use words::put;
 ghost use mathlib.Core.Path.{_≡_};
@@ -45,11 +45,11 @@ pub fn format(pool: &mut [u32], k: usize) -> Finished
 }
 
 // Whether the search for the point ends at its record.
-fn is_there(pool: &[u32], n: usize, k: usize, point: &[u32]) -> bool
-    requires { ⌜ Fit (now pool) n k × (length (now point) ≡ k) ⌝ }
+fn is_there(pool: &[u32], f: Form, point: &[u32]) -> bool
+    requires { ⌜ Fit (now pool) f × (length (now point) ≡ f .domains) ⌝ }
     ensures { λ r. ⌜ r ≡ present (findWalk L (now (pool .entry)) (now (point .entry)) .end) ⌝ }
 {
-    match search(pool, n, k, point) {
+    match search(pool, f, point) {
         Sought::Here(_, _, _, _) => true,
         Sought::Absent(_, _) => false,
         Sought::Bad(_) => false,
@@ -61,16 +61,16 @@ fn is_there(pool: &[u32], n: usize, k: usize, point: &[u32]) -> bool
 pub fn place(pool: &mut [u32], work: &mut [u32], point: &[u32], location: u32) -> Finished
     ensures { λ r. ⌜ Promise (now (pool .entry)) (place (now (work .entry)) (now (point .entry)) location) (finishedAs r (working (now (work .exit)) (now (pool .exit)))) ⌝ }
 {
-    let k = get(pool, 0);
-    let fits = (point.len() == k) & (work.len() == pool.len());
-    let n = match open_sound(pool, fits, point) {
-        Opened::Refused(r) => return Finished::Refused(r),
-        Opened::Pages(n) => n,
-    };
-    if is_there(pool, n, k, point) {
+    let f = form_of(pool);
+    let fits = (point.len() == f.domains) & (work.len() == pool.len());
+    match open_sound(pool, fits, point) {
+        Finished::Refused(r) => return Finished::Refused(r),
+        Finished::Done => {}
+    }
+    if is_there(pool, f, point) {
         return Finished::Refused(Refusal::Present);
     }
-    if place_in(pool, work, n, point, location as usize) {
+    if place_in(pool, work, f, point, location as usize) {
         return Finished::Done;
     }
     Finished::Refused(Refusal::NoFreePage)
@@ -80,12 +80,12 @@ pub fn place(pool: &mut [u32], work: &mut [u32], point: &[u32], location: u32) -
 pub fn remove(pool: &mut [u32], point: &[u32]) -> Removed
     ensures { λ r. ⌜ Promise (now (pool .entry)) (remove (now (point .entry))) (removedAs r (alone (now (pool .exit)))) ⌝ }
 {
-    let k = get(pool, 0);
-    let n = match open_sound(pool, point.len() == k, point) {
-        Opened::Refused(r) => return Removed::Refused(r),
-        Opened::Pages(n) => n,
-    };
-    match search(pool, n, k, point) {
+    let f = form_of(pool);
+    match open_sound(pool, point.len() == f.domains, point) {
+        Finished::Refused(r) => return Removed::Refused(r),
+        Finished::Done => {}
+    }
+    match search(pool, f, point) {
         Sought::Here(page, slot, location, _) => {
             remove_in(pool, page, slot);
             Removed::At(location)

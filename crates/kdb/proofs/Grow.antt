@@ -131,7 +131,7 @@ ShapedOut k R P (one t u) n b = Shaped k R P t n b
 ShapedOut k R P (two d x l r u) n b = Inside d x b × Shaped k R P l n (leftPart d x b) × Shaped k R P r n (rightPart d x b)
 
 -- the tree t with the record q has become o: well formed, the record added, and of the free pages the first ones claimed
-pub record Fit (k R P : ℕ) (t : Tree) (q : Rec) (free : List ℕ) (n : ℕ) (b : Box) (o : Out) : Type 0 where
+pub record Became (k R P : ℕ) (t : Tree) (q : Rec) (free : List ℕ) (n : ℕ) (b : Box) (o : Out) : Type 0 where
   pub shaped : ShapedOut k R P o n b
   pub held : (g : Rec → Bool) → recordsIn g o ≡ tally g (records t) + bit (g q)
   pub paged : (g : ℕ → Bool) → used o ≤ length free → pagesIn g o ≡ tally g (pages t) + tally g (take (used o) free)
@@ -145,18 +145,18 @@ pub record Stead (k R P : ℕ) (f : Forest) (q : Rec) (free : List ℕ) (n : ℕ
   pub held : (t : Rec → Bool) → tally t (recordsF g) ≡ tally t (recordsF f) + bit (t q)
   pub paged : (t : ℕ → Bool) → u ≤ length free → tally t (pagesF g) ≡ tally t (pagesF f) + tally t (take u free)
 
-abbrev pub FitF : ℕ → ℕ → ℕ → Forest → Rec → List ℕ → ℕ → OutF → Type 0
-FitF k R P f q free n o = Stead k R P f q free n (forest o) (usedF o) (extra o)
+abbrev pub BecameF : ℕ → ℕ → ℕ → Forest → Rec → List ℕ → ℕ → OutF → Type 0
+BecameF k R P f q free n o = Stead k R P f q free n (forest o) (usedF o) (extra o)
 
 pub record Grown (k R P : ℕ) (t : Tree) (q : Rec) (free : List ℕ) (n : ℕ) (b : Box) : Type 0 where
   pub fair : Fair k R P t q free
   pub made : grow k R P t q free ≡ shown (grown k R P t q free) free
-  pub fit : Fit k R P t q free n b (grown k R P t q free)
+  pub fit : Became k R P t q free n b (grown k R P t q free)
 
 pub record GrownF (k R P : ℕ) (f : Forest) (q : Rec) (free : List ℕ) (n : ℕ) : Type 0 where
   pub fair : FairF k R P f q free
   pub made : growF k R P f q free ≡ shownF (grownF k R P f q free) free
-  pub fit : FitF k R P f q free n (grownF k R P f q free)
+  pub fit : BecameF k R P f q free n (grownF k R P f q free)
 
 -- the records and the pages of joined entries
 join-tally : (g : Rec → Bool) (f h : Forest) → tally g (recordsF (joinF f h)) ≡ tally g (recordsF f) + tally g (recordsF h)
@@ -208,7 +208,7 @@ module _ (k R P : ℕ) where
       → Shaped k R P (half k d x t′ true (afterChosen k d) (drop u free)) n (leftPart d x b) → Shaped k R P (half k d x t′ false (afterChosen k d) (drop u free)) n (rightPart d x b)
       → ((g : Rec → Bool) → tally g (records t′) ≡ tally g (records t) + bit (g q))
       → ((g : ℕ → Bool) → u ≤ length free → tally g (pages t′) ≡ tally g (pages t) + tally g (take u free))
-      → Fit k R P t q free n b (broken k R P (cut d x) t′ u free)
+      → Became k R P t q free n b (broken k R P (cut d x) t′ u free)
   broken-fit t t′ q free n b d x u i l r held paged =
       record {
         shaped = (i, l, r);
@@ -255,7 +255,7 @@ module _ (k R P : ℕ) where
           subst (λ z. chosen k R P z (leaf p e rs′) free ≡ shown (broken k R P z (leaf p e rs′) 0 free) free) (sym (c .is)) (broken-made (c .dom) (c .at) (leaf p e rs′) 0 free (omega arith))
 
       fit : (s : Bool) → (T s → length rs′ ≤ P) → (T (not s) → P < length rs′)
-          → Fit k R P (leaf p e rs) q free n b (elim s as (λ _. Out) [ true ↦ one (leaf p e rs′) 0 | false ↦ broken k R P (cutPoints k e rs′) (leaf p e rs′) 0 free ])
+          → Became k R P (leaf p e rs) q free n b (elim s as (λ _. Out) [ true ↦ one (leaf p e rs′) 0 | false ↦ broken k R P (cutPoints k e rs′) (leaf p e rs′) 0 free ])
       fit true room over =
           record {
             shaped = (h .0, record { room = room tt; domain = h .1 .domain; inside = inside; distinct = differs });
@@ -266,7 +266,7 @@ module _ (k R P : ℕ) where
           let c = cuts (over tt) in
           let ins = points-inside k e b rs′ inside c in
           let dom = chosen-below k (c .dom) (c .below) in
-          subst (λ z. Fit k R P (leaf p e rs) q free n b (broken k R P z (leaf p e rs′) 0 free)) (sym (c .is))
+          subst (λ z. Became k R P (leaf p e rs) q free n b (broken k R P z (leaf p e rs′) 0 free)) (sym (c .is))
           (broken-fit (leaf p e rs) (leaf p e rs′) q free n b (c .dom) (c .at) 0 ins
           (h .0, point-half k R P (c .dom) (c .at) true (afterChosen k (c .dom)) rs′ b dom ins inside differs (rooms c true))
           (h .0, point-half k R P (c .dom) (c .at) false (afterChosen k (c .dom)) rs′ b dom ins inside differs (rooms c false))
@@ -310,24 +310,24 @@ module _ (k R P : ℕ) where
         fit = fit (grownF k R P f q free) (i .fit);
       }
     where
-      tiled : (o : OutF) → FitF k R P f q free n o → Tiles b (boxes (forest o))
+      tiled : (o : OutF) → BecameF k R P f q free n o → Tiles b (boxes (forest o))
       tiled o w =
           let c = tiles-counted b (boxes f) (h .tiled) in
           counted-tiles b (boxes (forest o)) (record { solids = w .firm (c .solids); once = λ p. w .hold p ∙ c .once p })
 
-      cuts : (o : OutF) → FitF k R P f q free n o → R < size (forest o) → RegionsCut k e b (boxes (forest o))
+      cuts : (o : OutF) → BecameF k R P f q free n o → R < size (forest o) → RegionsCut k e b (boxes (forest o))
       cuts o w over = regions-cut k e b (boxes (forest o)) lb (h .domain) (tiled o w) (omega (arith, size-length (forest o)))
 
-      page : (o : OutF) → FitF k R P f q free n o → size (forest o) ≤ R → RegionPage k R e (boxes (forest o)) b
+      page : (o : OutF) → BecameF k R P f q free n o → size (forest o) ≤ R → RegionPage k R e (boxes (forest o)) b
       page o w l = record { filled = omega (arith, h .filled, w .wide); room = omega (arith, size-length (forest o)); domain = h .domain; tiled = tiled o w }
 
-      rooms : (o : OutF) → FitF k R P f q free n o → (c : RegionsCut k e b (boxes (forest o))) (s : Bool) → length (Tiling.parts s (c .dom) (c .at) (boxes (forest o))) ≤ R
+      rooms : (o : OutF) → BecameF k R P f q free n o → (c : RegionsCut k e b (boxes (forest o))) (s : Bool) → length (Tiling.parts s (c .dom) (c .at) (boxes (forest o))) ≤ R
       rooms o w c s = omega (arith, regions-rooms k e b (boxes (forest o)) c s, w .wide, h .room, one-most o)
 
-      fair : (o : OutF) → FitF k R P f q free n o → FairWider k R P e (shownF o free)
+      fair : (o : OutF) → BecameF k R P f q free n o → FairWider k R P e (shownF o free)
       fair o w = go o w (leb (usedF o) (length free))
         where
-          go : (o : OutF) → FitF k R P f q free n o → (c : Bool) → FairWider k R P e (showByF c o free)
+          go : (o : OutF) → BecameF k R P f q free n o → (c : Bool) → FairWider k R P e (showByF c o free)
           go o w false = tt
           go (asMany g u) w true = tt
           go (oneMore g u) w true = λ over.
@@ -335,7 +335,7 @@ module _ (k R P : ℕ) where
               subst (λ z. FairRegions k R P z (boxes g)) (sym (c .is))
               (c .below, rooms (oneMore g u) w c true, rooms (oneMore g u) w c false)
 
-      fit : (o : OutF) → FitF k R P f q free n o → Fit k R P (node p e f) q free (suc n) b (settledNode k R P p e o free)
+      fit : (o : OutF) → BecameF k R P f q free n o → Became k R P (node p e f) q free (suc n) b (settledNode k R P p e o free)
       fit (asMany g u) w =
           record {
             shaped = (page (asMany g u) w (omega (arith, size-length g, w .wide, h .room)), w .shaped);
@@ -345,7 +345,7 @@ module _ (k R P : ℕ) where
       fit (oneMore g u) w = go (leb (size g) R) (leb→le (size g) R) (nleb→lt (size g) R)
         where
           go : (s : Bool) → (T s → size g ≤ R) → (T (not s) → R < size g)
-              → Fit k R P (node p e f) q free (suc n) b (elim s as (λ _. Out) [ true ↦ one (node p e g) u | false ↦ broken k R P (cutRegions k e (boxes g)) (node p e g) u free ])
+              → Became k R P (node p e f) q free (suc n) b (elim s as (λ _. Out) [ true ↦ one (node p e g) u | false ↦ broken k R P (cutRegions k e (boxes g)) (node p e g) u free ])
           go true room over = record { shaped = (page (oneMore g u) w (room tt), w .shaped); held = w .held; paged = λ t l. omega (arith, w .paged t l) }
           go false room over =
               let c = cuts (oneMore g u) w (over tt) in
@@ -355,7 +355,7 @@ module _ (k R P : ℕ) where
               let page-half : (s : Bool) → RegionPage k R (afterChosen k d) (boxes (halfF k d x g s (drop 1 (drop u free)))) (part s d x b) = λ s.
               subst (λ bs. RegionPage k R (afterChosen k d) bs (part s d x b)) (sym (half-boxes k d x g s (drop 1 (drop u free))))
               (region-half k R P d x s (afterChosen k d) (boxes g) b dom (c .inside) (tiled (oneMore g u) w) (omega (arith, w .wide)) (rooms (oneMore g u) w c s)) in
-              subst (λ z. Fit k R P (node p e f) q free (suc n) b (broken k R P z (node p e g) u free)) (sym (c .is))
+              subst (λ z. Became k R P (node p e f) q free (suc n) b (broken k R P z (node p e g) u free)) (sym (c .is))
               (broken-fit (node p e f) (node p e g) q free (suc n) b d x u (c .inside)
               (page-half true, shapedF-half k R P d x g n true (drop 1 (drop u free)) (w .shaped))
               (page-half false, shapedF-half k R P d x g n false (drop 1 (drop u free)) (w .shaped))
@@ -387,7 +387,7 @@ passed-made b t (oneMore f u) free = go (leb u (length free))
     go false = refl
 
 module _ (k R P : ℕ) where
-  entered-fit : (b : Box) (t : Tree) (f : Forest) (q : Rec) (free : List ℕ) (n : ℕ) (o : Out) → Fit k R P t q free n b o → ShapedF k R P f n → FitF k R P (fcons b t f) q free n (entered b o f)
+  entered-fit : (b : Box) (t : Tree) (f : Forest) (q : Rec) (free : List ℕ) (n : ℕ) (o : Out) → Became k R P t q free n b o → ShapedF k R P f n → BecameF k R P (fcons b t f) q free n (entered b o f)
   entered-fit b t f q free n (one t′ u) w h =
       record {
         shaped = (w .shaped, h);
@@ -421,7 +421,7 @@ module _ (k R P : ℕ) where
         paged = λ a l. simp tally-append (omega (arith, w .paged a l));
       }
 
-  passed-fit : (b : Box) (t : Tree) (f : Forest) (q : Rec) (free : List ℕ) (n : ℕ) (o : OutF) → Shaped k R P t n b → FitF k R P f q free n o → FitF k R P (fcons b t f) q free n (passed b t o)
+  passed-fit : (b : Box) (t : Tree) (f : Forest) (q : Rec) (free : List ℕ) (n : ℕ) (o : OutF) → Shaped k R P t n b → BecameF k R P f q free n o → BecameF k R P (fcons b t f) q free n (passed b t o)
   passed-fit b t f q free n (asMany g u) h w = stead-behind b t f g q free n u 0 h w
   passed-fit b t f q free n (oneMore g u) h w = stead-behind b t f g q free n u 1 h w
 
@@ -431,7 +431,7 @@ module _ (k R P : ℕ) where
       record {
         fair = (λ y. v y .fair, λ y. w y .fair);
         made = made (within b (q .key)) (λ y. v y .made) (λ y. w y .made);
-        fit = by-case (λ o. FitF k R P (fcons b t f) q free n o) (within b (q .key)) (entered b (grown k R P t q free) f) (passed b t (grownF k R P f q free))
+        fit = by-case (λ o. BecameF k R P (fcons b t f) q free n o) (within b (q .key)) (entered b (grown k R P t q free) f) (passed b t (grownF k R P f q free))
             (λ y. entered-fit b t f q free n (grown k R P t q free) (v y .fit) hs) (λ y. passed-fit b t f q free n (grownF k R P f q free) h (w y .fit));
       }
     where
@@ -495,9 +495,9 @@ abbrev pub claims : ℕ → ℕ → ℕ → ℕ → State → Rec → ℕ
 claims k R P N none q = 1
 claims k R P N (some t) q = claimed (grown k R P t q (freeOf N (pages t)))
 
-abbrev pub after : ℕ → ℕ → ℕ → ℕ → State → Rec → Tree
-after k R P N none q = leaf (getD (freeOf N []) 0 0) 0 (q ∷ [])
-after k R P N (some t) q = atTop k (grown k R P t q (freeOf N (pages t))) (freeOf N (pages t))
+abbrev pub treeAfter : ℕ → ℕ → ℕ → ℕ → State → Rec → Tree
+treeAfter k R P N none q = leaf (getD (freeOf N []) 0 0) 0 (q ∷ [])
+treeAfter k R P N (some t) q = atTop k (grown k R P t q (freeOf N (pages t))) (freeOf N (pages t))
 
 pub topped-enough : (k : ℕ) (o : Out) (free : List ℕ) → claimed o ≤ length free → topped k (shown o free) ≡ some (some (atTop k o free))
 topped-enough k (one t u) free h = ap (topped k) (shown-enough (one t u) free h)
@@ -572,7 +572,7 @@ module _ (L k N : ℕ) where
 
   -- the steps succeed exactly if the free pages suffice
   pub placed-some : (s : State) (q : Rec) → Placing L k N s q → claims k (regionsPer L k) (pointsPer L k) N s q ≤ length (freeOf N (pagesOf s))
-      → placed k (regionsPer L k) (pointsPer L k) N s q ≡ some (some (after k (regionsPer L k) (pointsPer L k) N s q))
+      → placed k (regionsPer L k) (pointsPer L k) N s q ≡ some (some (treeAfter k (regionsPer L k) (pointsPer L k) N s q))
   placed-some none q p h = first-enough q (freeOf N []) h
   placed-some (some t) q p h =
       ap (topped k) (placing-grown t q (freeOf N (pages t)) p .made) ∙ topped-enough k (grown k (regionsPer L k) (pointsPer L k) t q (freeOf N (pages t))) (freeOf N (pages t)) h
@@ -594,7 +594,7 @@ module _ (L k N : ℕ) where
 
   -- the pages after: the old ones and the first of the free ones
   pub after-pages : (s : State) (q : Rec) (g : ℕ → Bool) → Placing L k N s q → claims k (regionsPer L k) (pointsPer L k) N s q ≤ length (freeOf N (pagesOf s))
-      → tally g (pages (after k (regionsPer L k) (pointsPer L k) N s q)) ≡ tally g (pagesOf s) + tally g (take (claims k (regionsPer L k) (pointsPer L k) N s q) (freeOf N (pagesOf s)))
+      → tally g (pages (treeAfter k (regionsPer L k) (pointsPer L k) N s q)) ≡ tally g (pagesOf s) + tally g (take (claims k (regionsPer L k) (pointsPer L k) N s q) (freeOf N (pagesOf s)))
   after-pages none q g p h = go (freeOf N []) h
     where
       go : (free : List ℕ) → 1 ≤ length free → tally g (getD free 0 0 ∷ []) ≡ 0 + tally g (take 1 free)
@@ -604,23 +604,23 @@ module _ (L k N : ℕ) where
       let free = freeOf N (pages t) in
       top-pages k g (grown k (regionsPer L k) (pointsPer L k) t q free) free (tally g (pages t)) h (placing-grown t q free p .fit .paged g)
 
-  pub after-records : (s : State) (q : Rec) (g : Rec → Bool) → Placing L k N s q → tally g (records (after k (regionsPer L k) (pointsPer L k) N s q)) ≡ tally g (recordsOf s) + bit (g q)
+  pub after-records : (s : State) (q : Rec) (g : Rec → Bool) → Placing L k N s q → tally g (records (treeAfter k (regionsPer L k) (pointsPer L k) N s q)) ≡ tally g (recordsOf s) + bit (g q)
   after-records none q g p = omega arith
   after-records (some t) q g p =
       let free = freeOf N (pages t) in
       top-records k g (grown k (regionsPer L k) (pointsPer L k) t q free) free ∙ placing-grown t q free p .fit .held g
 
   pub after-formed : (s : State) (q : Rec) → Placing L k N s q → claims k (regionsPer L k) (pointsPer L k) N s q ≤ length (freeOf N (pagesOf s))
-      → WellFormed L k N (some (after k (regionsPer L k) (pointsPer L k) N s q))
+      → WellFormed L k N (some (treeAfter k (regionsPer L k) (pointsPer L k) N s q))
   after-formed s q p h =
       record {
         domains = p .formed .domains;
         size = p .formed .size;
-        numbered = numbered-more N (pagesOf s) (pages (after k (regionsPer L k) (pointsPer L k) N s q)) (claims k (regionsPer L k) (pointsPer L k) N s q) (p .formed .numbered) (λ c. after-pages s q (eqb c) p h);
+        numbered = numbered-more N (pagesOf s) (pages (treeAfter k (regionsPer L k) (pointsPer L k) N s q)) (claims k (regionsPer L k) (pointsPer L k) N s q) (p .formed .numbered) (λ c. after-pages s q (eqb c) p h);
         shape = shape s p;
       }
     where
-      shape : (s : State) → Placing L k N s q → ShapedS L k (some (after k (regionsPer L k) (pointsPer L k) N s q))
+      shape : (s : State) → Placing L k N s q → ShapedS L k (some (treeAfter k (regionsPer L k) (pointsPer L k) N s q))
       shape none p = (refl, record { room = p .roomy .points; domain = p .roomy .domains; inside = and-i (within (whole k) (q .key)) _ (p .inside) tt; distinct = tt })
       shape (some t) p =
           let free = freeOf N (pages t) in
@@ -640,7 +640,7 @@ module _ (L k N : ℕ) where
       bool (leb n (length free))
       (λ t. let h = leb→le n (length free) t in
       let f = placed-some s q p h in
-      let i : some (after k (regionsPer L k) (pointsPer L k) N s q) ≡ s′ = cc in
+      let i : some (treeAfter k (regionsPer L k) (pointsPer L k) N s q) ≡ s′ = cc in
       subst (λ z. Placed s z q) i (record { formed = after-formed s q p h; held = λ g. after-records s q g p; enough = h; paged = λ g. after-pages s q g p h }))
       (λ t. let f = placed-none s q p (nleb→lt n (length free) t) in let z : _≡_ {A = ℕ} 0 1 = cc in absurd (omega arith))
 

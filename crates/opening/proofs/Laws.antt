@@ -1,22 +1,23 @@
 -- What opening a pool tells: the first test that fails, or that all hold; and a call that was refused in opening its pool, or goes on.
 use mathlib.Core.Bool.{Bool, true, false}
-use mathlib.Core.List.{List, [], _∷_, _++_, append-assoc}
+use mathlib.Core.List.{List, [], _∷_, _++_, append-assoc, append-nil}
 use mathlib.Core.Path.{_≡_, refl, sym, ap, _∙_, subst}
 use Prim.Native.Nat.{ℕ}
 use lib.Dec.{T, eqb}
 use lib.ListN.{length}
 use borrow.Author.Tests.{eqb-true}
-use Rattle.kdb.specs.Pool.{domains, goodLength, goodHeader}
+use Rattle.kdb.specs.Pool.{goodLength, goodHeader}
+use Rattle.kdb.specs.declared.Form.{Form}
 use Rattle.kdb.specs.declared.Refusal.{Refusal}
 use Rattle.kdb.specs.declared.Refusal.the-variants.{PoolLength, BufferLength, InfiniteKey, Unsound}
-use Rattle.kdb.specs.Calls.{L, Call, Buffers, Outcome, refuses, Test, _or_, judge, allHold, finite, headTests, lent, tests, core, outcome, Promise}
-use Rattle.kdb.proofs.Calls.{judge-past}
+use Rattle.kdb.specs.Calls.{L, Call, Buffers, Outcome, gives, refuses, Test, _or_, judge, allHold, finite, headTests, lent, tests, core, outcome, Promise}
+use Rattle.kdb.proofs.Calls.{goes-on, judge-past}
 use Rattle.kdb.proofs.Lists.{and-l, and-r, and-i, is-true, of-true}
-use Rattle.words.specs.Words.{Paged, Fit}
+use Rattle.words.specs.Words.{formOf, Fit}
 use Rattle.words.proofs.Laws.{fit}
-use Rattle.opening.specs.declared.Opened.{Opened}
-use Rattle.opening.specs.declared.Opened.the-variants.{Pages, Refused}
-use Rattle.opening.specs.Opens.{Opens}
+use Rattle.opening.specs.declared.Finished.{Finished}
+use Rattle.opening.specs.declared.Finished.the-variants.{Done, Refused}
+use Rattle.opening.specs.Opens.{Opens, finishedAs}
 
 module _ (w : List ℕ) (f : Bool) (es : List ℕ) where
   pub long-fails : goodLength L w ≡ false → Opens w (headTests w f es) (Refused PoolLength)
@@ -34,18 +35,18 @@ module _ (w : List ℕ) (f : Bool) (es : List ℕ) where
         pub ends-fail : finite es ≡ false → Opens w (headTests w f es) (Refused InfiniteKey)
         ends-fail e = record { tells = λ us b o. rw (a, h, g, e) }
 
-        pub all-hold : (n : ℕ) → Paged w n → finite es ≡ true → Opens w (headTests w f es) (Pages n)
-        all-hold n p e = record { tells = (fit w n (domains w) p h refl, rw (a, h, g, e) tt) }
+        pub all-hold : finite es ≡ true → Opens w (headTests w f es) Done
+        all-hold e = record { tells = (fit w a h, rw (a, h, g, e) tt) }
 
 pub hold-more : (t : Bool) (r : Refusal) (us : List Test) → T t → T (allHold us) → T (allHold (us ++ ((t or r) ∷ [])))
 hold-more t r [] z h = and-i t true z tt
 hold-more t r (u ∷ us) z h = and-i (u .holds) _ (and-l (u .holds) _ h) (hold-more t r us z (and-r (u .holds) _ h))
 
 -- a pool that was opened
-module _ (w : List ℕ) (ts : List Test) (q : Opened) (op : Opens w ts q) where
+module _ (w : List ℕ) (ts : List Test) (q : Finished) (op : Opens w ts q) where
   -- the tests hold
-  pub opened : (n : ℕ) → Pages n ≡ q → Fit w n (domains w) × T (allHold ts)
-  opened n e = subst (Opens w ts) (sym e) op .tells
+  pub opened : Done ≡ q → Fit w (formOf w) × T (allHold ts)
+  opened e = subst (Opens w ts) (sym e) op .tells
 
   -- or a call whose first tests these are is refused
   refused : (r : Refusal) → Refused r ≡ q → (us : List Test) (b : Buffers) (o : Outcome) → judge (ts ++ us) b o ≡ refuses r b
@@ -60,13 +61,19 @@ module _ (w : List ℕ) (ts : List Test) (q : Opened) (op : Opens w ts q) where
     pub refused-before : (r : Refusal) → Refused r ≡ q → Opens w (ts ++ ((t or s) ∷ [])) (Refused r)
     refused-before r e = record { tells = λ vs b o. ap (λ l. judge l b o) (append-assoc ts ((t or s) ∷ []) vs) ∙ refused r e ((t or s) ∷ vs) b o }
 
-    module _ (n : ℕ) (e : Pages n ≡ q) where
+    module _ (e : Done ≡ q) where
       pub last-fails : t ≡ false → Opens w (ts ++ ((t or s) ∷ [])) (Refused s)
       last-fails z =
-          record { tells = λ vs b o. ap (λ l. judge l b o) (append-assoc ts ((t or s) ∷ []) vs) ∙ (judge-past ts ((t or s) ∷ vs) b o (opened n e .1) ∙ rw z refl) }
+          record { tells = λ vs b o. ap (λ l. judge l b o) (append-assoc ts ((t or s) ∷ []) vs) ∙ (judge-past ts ((t or s) ∷ vs) b o (opened e .1) ∙ rw z refl) }
 
-      pub last-holds : t ≡ true → Opens w (ts ++ ((t or s) ∷ [])) (Pages n)
-      last-holds z = record { tells = (opened n e .0, hold-more t s ts (of-true t z) (opened n e .1)) }
+      pub last-holds : t ≡ true → Opens w (ts ++ ((t or s) ∷ [])) Done
+      last-holds z = record { tells = (opened e .0, hold-more t s ts (of-true t z) (opened e .1)) }
+
+-- a call that does no more than open its pool
+pub opens-kept : (w : List ℕ) (c : Call) (q : Finished) → Opens w (tests w c) q → core w c ≡ gives [] (lent w c) → Promise w c (finishedAs q (lent w c))
+unfolding outcome
+opens-kept w c Done o e = record { kept = sym (goes-on w c (o .tells .1) ∙ e) }
+opens-kept w c (Refused r) o e = refused-kept w (tests w c) (Refused r) o c [] r refl (sym (append-nil (tests w c)))
 
 -- what opening a pool has shown, us the tests behind its own
 pub record Headed (w : List ℕ) (f : Bool) (es : List ℕ) (us : List Test) : Type 0 where
@@ -91,7 +98,7 @@ headed w f es us h =
       more = and-r (finite es) _ t4;
     }
 
--- m words that fit, in a pool of k domains
-pub fitting : (w xs : List ℕ) (n k m : ℕ) (us : List Test) → k ≡ domains w → Fit w n (domains w) × T (allHold (headTests w (eqb (length xs) m) xs ++ us))
-    → Fit w n k × (length xs ≡ m)
-fitting w xs n k m us e h = (subst (Fit w n) (sym e) (h .0), eqb-true (length xs) m (headed w (eqb (length xs) m) xs us (h .1) .fits))
+-- m words that fit, in a pool of form f
+pub fitting : (w xs : List ℕ) (f : Form) (m : ℕ) (us : List Test) → f ≡ formOf w → Fit w (formOf w) × T (allHold (headTests w (eqb (length xs) m) xs ++ us))
+    → Fit w f × (length xs ≡ m)
+fitting w xs f m us e h = (subst (Fit w) (sym e) (h .0), eqb-true (length xs) m (headed w (eqb (length xs) m) xs us (h .1) .fits))

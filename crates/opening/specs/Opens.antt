@@ -3,20 +3,17 @@ use mathlib.Core.List.{List, [], _++_}
 use mathlib.Core.Path.{_≡_}
 use Prim.Native.Nat.{ℕ}
 use lib.Dec.{T}
-use Rattle.kdb.specs.Pool.{domains}
 use Rattle.kdb.specs.Calls.{Buffers, Outcome, gives, refuses, Test, judge, allHold}
-use Rattle.words.specs.Words.{Fit}
-use Rattle.opening.specs.declared.Opened.{Opened}
-use Rattle.opening.specs.declared.Opened.the-variants as opens
+use Rattle.words.specs.Words.{formOf, Fit}
 use Rattle.opening.specs.declared.Finished.{Finished}
 use Rattle.opening.specs.declared.Finished.the-variants as finishes
 
--- the tests hold and the pool has n pages; or the refusal is given, whatever tests come behind these
-abbrev pub Tells : List ℕ → List Test → Opened → Type 0
-Tells w ts (opens.Pages n) = Fit w n (domains w) × T (allHold ts)
-Tells w ts (opens.Refused r) = (us : List Test) (b : Buffers) (o : Outcome) → judge (ts ++ us) b o ≡ refuses r b
+-- the tests hold and the pool is fit for a call; or the refusal is given, whatever tests come behind these
+abbrev pub Tells : List ℕ → List Test → Finished → Type 0
+Tells w ts finishes.Done = Fit w (formOf w) × T (allHold ts)
+Tells w ts (finishes.Refused r) = (us : List Test) (b : Buffers) (o : Outcome) → judge (ts ++ us) b o ≡ refuses r b
 
-pub record Opens (w : List ℕ) (ts : List Test) (q : Opened) : Type 0 where
+pub record Opens (w : List ℕ) (ts : List Test) (q : Finished) : Type 0 where
   pub tells : Tells w ts q
 
 -- the outcome that an answer is, with the buffers at exit

@@ -2,6 +2,7 @@
 use audit::audit;
 use kdb::Refusal;
 use words::all_finite;
+use words::form_of;
 use words::good_header;
 use words::page_count;
 ghost use mathlib.Core.Path.{_≡_};
@@ -34,42 +35,36 @@ pub enum Finished {
     Refused(Refusal),
 }
 
-// A pool that was opened: its pages; or why not.
-pub enum Opened {
-    Pages(usize),
-    Refused(Refusal),
-}
-
 // The tests that all calls but format begin with: length and header of the pool, whether what is lent fits, and keys or window ends.
-pub fn open_pool(pool: &[u32], fits: bool, ends: &[u32]) -> Opened
+pub fn open_pool(pool: &[u32], fits: bool, ends: &[u32]) -> Finished
     ensures { λ r. ⌜ Opens (now (pool .entry)) (headTests (now (pool .entry)) fits (now (ends .entry))) r ⌝ }
 {
     let n = page_count(pool);
     if n == 0 {
-        return Opened::Refused(Refusal::PoolLength);
+        return Finished::Refused(Refusal::PoolLength);
     }
     if !good_header(pool, n) {
-        return Opened::Refused(Refusal::Unsound);
+        return Finished::Refused(Refusal::Unsound);
     }
     if !fits {
-        return Opened::Refused(Refusal::BufferLength);
+        return Finished::Refused(Refusal::BufferLength);
     }
     if !all_finite(ends) {
-        return Opened::Refused(Refusal::InfiniteKey);
+        return Finished::Refused(Refusal::InfiniteKey);
     }
-    Opened::Pages(n)
+    Finished::Done
 }
 
 // And that the pool is sound.
-pub fn open_sound(pool: &[u32], fits: bool, ends: &[u32]) -> Opened
+pub fn open_sound(pool: &[u32], fits: bool, ends: &[u32]) -> Finished
     ensures { λ r. ⌜ Opens (now (pool .entry)) (headTests (now (pool .entry)) fits (now (ends .entry)) ++ ((sound L (now (pool .entry)) or Unsound) ∷ [])) r ⌝ }
 {
-    let n = match open_pool(pool, fits, ends) {
-        Opened::Refused(r) => return Opened::Refused(r),
-        Opened::Pages(n) => n,
-    };
-    if !audit(pool, n) {
-        return Opened::Refused(Refusal::Unsound);
+    match open_pool(pool, fits, ends) {
+        Finished::Refused(r) => return Finished::Refused(r),
+        Finished::Done => {}
     }
-    Opened::Pages(n)
+    if !audit(pool, form_of(pool)) {
+        return Finished::Refused(Refusal::Unsound);
+    }
+    Finished::Done
 }

@@ -1,16 +1,16 @@
 // The public calls that leave the pool as it is: check, find and list. They have no requires: every input has an answer, and the promise
 // says which.
 use boxes::ordered_window;
+use kdb::Form;
 use kdb::Refusal;
 use opening::Finished;
-use opening::Opened;
 use opening::open_pool;
 use opening::open_sound;
 use walk::Sought;
 use walk::list_walk;
 use walk::search;
 use words::clear;
-use words::get;
+use words::form_of;
 ghost use mathlib.Core.Path.{_≡_};
 ghost use mathlib.Core.Bool.{cond};
 ghost use Prim.Native.Nat.{_*_};
@@ -37,22 +37,19 @@ pub enum Listed {
 pub fn check(pool: &[u32]) -> Finished
     ensures { λ r. ⌜ Promise (now (pool .entry)) check (finishedAs r (alone (now (pool .entry)))) ⌝ }
 {
-    match open_sound(pool, true, &pool[..0]) {
-        Opened::Refused(r) => Finished::Refused(r),
-        Opened::Pages(_) => Finished::Done,
-    }
+    open_sound(pool, true, &pool[..0])
 }
 
 // The location of the record with the point's keys, and the pages read.
 pub fn find(pool: &[u32], point: &[u32]) -> Found
     ensures { λ r. ⌜ Promise (now (pool .entry)) (find (now (point .entry))) (foundAs r (alone (now (pool .entry)))) ⌝ }
 {
-    let k = get(pool, 0);
-    let n = match open_pool(pool, point.len() == k, point) {
-        Opened::Refused(r) => return Found::Refused(r),
-        Opened::Pages(n) => n,
-    };
-    match search(pool, n, k, point) {
+    let f = form_of(pool);
+    match open_pool(pool, point.len() == f.domains, point) {
+        Finished::Refused(r) => return Found::Refused(r),
+        Finished::Done => {}
+    }
+    match search(pool, f, point) {
         Sought::Here(_, _, location, reads) => Found::At(location, reads),
         Sought::Absent(_, _) => Found::Refused(Refusal::Absent),
         Sought::Bad(_) => Found::Refused(Refusal::Unsound),
@@ -68,12 +65,12 @@ fn zeroed_from(stopped: bool, slots: usize) -> usize
 }
 
 // List after the tests of its arguments: the walk, and every slot 0 where it met a bad page or the bound.
-fn list_within(pool: &[u32], n: usize, k: usize, window: &[u32], answer: &mut [u32]) -> Listed
-    requires { ⌜ Fit (now pool) n k × (length (now window) ≡ 2 * k) ⌝ }
-    ensures { λ r. ⌜ listedAs r (answering (now (answer .exit)) (now (pool .entry))) ≡ listing (listWalk L (now (pool .entry)) (windowOf k (now (window .entry)))) (now (pool .entry)) (now (answer .entry)) ⌝ }
+fn list_within(pool: &[u32], f: Form, window: &[u32], answer: &mut [u32]) -> Listed
+    requires { ⌜ Fit (now pool) f × (length (now window) ≡ 2 * f .domains) ⌝ }
+    ensures { λ r. ⌜ listedAs r (answering (now (answer .exit)) (now (pool .entry))) ≡ listing (listWalk L (now (pool .entry)) (windowOf (f .domains) (now (window .entry)))) (now (pool .entry)) (now (answer .entry)) ⌝ }
 {
     let slots = answer.len();
-    let t = list_walk(pool, n, k, window, answer);
+    let t = list_walk(pool, f, window, answer);
     clear(answer, zeroed_from(t.bad, slots), slots);
     if t.bad {
         return Listed::Refused(Refusal::Unsound);
@@ -85,13 +82,13 @@ fn list_within(pool: &[u32], n: usize, k: usize, window: &[u32], answer: &mut [u
 pub fn list(pool: &[u32], window: &[u32], answer: &mut [u32]) -> Listed
     ensures { λ r. ⌜ Promise (now (pool .entry)) (list (now (window .entry)) (now (answer .entry))) (listedAs r (answering (now (answer .exit)) (now (pool .entry)))) ⌝ }
 {
-    let k = get(pool, 0);
-    let n = match open_pool(pool, window.len() == 2 * k, window) {
-        Opened::Refused(r) => return Listed::Refused(r),
-        Opened::Pages(n) => n,
-    };
-    if !ordered_window(window, k) {
+    let f = form_of(pool);
+    match open_pool(pool, window.len() == 2 * f.domains, window) {
+        Finished::Refused(r) => return Listed::Refused(r),
+        Finished::Done => {}
+    }
+    if !ordered_window(window, f.domains) {
         return Listed::Refused(Refusal::WindowOrder);
     }
-    list_within(pool, n, k, window, answer)
+    list_within(pool, f, window, answer)
 }

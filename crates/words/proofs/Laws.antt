@@ -19,23 +19,24 @@ use Rattle.kdb.proofs.Lists.{and-t, is-true, of-true, sets-whole}
 use Rattle.kdb.proofs.Pool.{length-iff, header-iff}
 use Rattle.kdb.proofs.Words.{page-rest}
 use Rattle.words.specs.Loops.{allBy}
-use Rattle.words.specs.Words.{pageCount, Formed, Fit, allZero, capacityOf}
+use Rattle.words.specs.Words.{pageCount, formOf, Formed, Fit, allZero, capacityOf}
 use Rattle.words.proofs.Loops.{keys-by, every-by}
 use Rattle.words.proofs.Table.{at₂}
 
--- a pool of n pages with a good header is fit for every call
 pub pages : (w : List ℕ) (f : Form) → Formed w f → pagesIn L w ≡ f .pages
 pages w f g = let z : length w ≡ 32 * f .pages = g .words in omega arith
 
-pub fit : (w : List ℕ) (n k : ℕ) → GoodLength L w → n ≡ pagesIn L w → goodHeader L w ≡ true → k ≡ domains w → Fit w (record { pages = n; domains = k })
-fit w n k g p t e =
-    let h = header-iff L w .0 (of-true (goodHeader L w) t) in
-    record { formed = record { words = rw p (g .long); least = rw p (g .least); most = rw p (g .most); some = rw e (h .least); few = rw e (h .most) }; says = sym e }
-
--- what a count of pages tells
 pub long : (w : List ℕ) → goodLength L w ≡ true → GoodLength L w
 long w t = length-iff L w .0 (of-true (goodLength L w) t)
 
+-- a pool of good length and header is fit for every call
+pub fit : (w : List ℕ) → goodLength L w ≡ true → goodHeader L w ≡ true → Fit w (formOf w)
+fit w a b =
+    let g = long w a in
+    let h = header-iff L w .0 (of-true (goodHeader L w) b) in
+    record { formed = record { words = g .long; least = g .least; most = g .most; some = h .least; few = h .most }; says = refl }
+
+-- what a count of pages tells
 pub count-none : (w : List ℕ) (n : ℕ) → n ≡ pageCount w → n ≡ 0 → goodLength L w ≡ false
 count-none w n e z = go (goodLength L w) refl
   where

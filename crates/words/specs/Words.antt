@@ -21,6 +21,10 @@ wordAt w j i = getD w (L * j + i) 0
 abbrev pub pageCount : List ℕ → ℕ
 pageCount w = cond (goodLength L w) (pagesIn L w) 0
 
+-- the form that a pool's length and header say
+abbrev pub formOf : List ℕ → Form
+formOf w = record { pages = pagesIn L w; domains = domains w }
+
 -- the words are a pool of form f: 2 to 512 pages, 1 to 4 domains
 pub record Formed (w : List ℕ) (f : Form) : Type 0 where
   pub words : length w ≡ L * f .pages

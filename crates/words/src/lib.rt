@@ -1,11 +1,12 @@
 // Words of a lent pool: what is read and written of a page, and nothing of the tree.
+use kdb::Form;
 ghost use mathlib.Core.Path.{_≡_};
 ghost use Prim.Native.Nat.{_+_, _*_, _-_, _≤_, _<_, _^_, min, max};
 ghost use lib.ListN.{length, getD, set, replicate};
 ghost use lib.Seq.{sets};
 ghost use Rattle.kdb.specs.Pool.{pagesIn, goodHeader, GoodLength};
 ghost use Rattle.kdb.specs.Calls.{L, finite};
-ghost use Rattle.words.specs.Words.{wordAt, pageCount, capacityOf, pointAt, pointLocation, lowestFree, allZero, RegionIn, RecordIn};
+ghost use Rattle.words.specs.Words.{wordAt, pageCount, formOf, capacityOf, pointAt, pointLocation, lowestFree, allZero, RegionIn, RecordIn};
 
 // Regions and points a page, by K from 1 to 4.
 const CAPACITIES: [[u32; 4]; 2] = [[9, 5, 4, 3], [14, 9, 7, 5]];
@@ -56,6 +57,16 @@ pub fn page_count(pool: &[u32]) -> usize
         len / 32
     } else {
         0
+    }
+}
+
+// The form that the length and the first word of a pool say.
+pub fn form_of(pool: &[u32]) -> Form
+    ensures { λ r. ⌜ (r ≡ formOf (now (pool .entry))) × (r .domains < 2 ^ 32) ⌝ }
+{
+    Form {
+        pages: pool.len() / 32,
+        domains: get(pool, 0),
     }
 }
 

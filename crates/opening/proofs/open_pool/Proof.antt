@@ -1,7 +1,7 @@
 -- `opening::open_pool` meets its contract: the first test that fails gives its refusal.
 use mathlib.Core.Path.{sym, _∙_}
 use borrow.Author.Tests.{not-true, not-false}
-use Rattle.words.proofs.Laws.{count-none, count-some}
+use Rattle.words.proofs.Laws.{long, count-none, count-some}
 use Rattle.opening.proofs.Laws.{long-fails, header-fails, fit-fails, ends-fail, all-hold}
 use borrow.Author.Needs.{needs}
 use Rattle.opening.proofs.open_pool.Statement.{statement}
@@ -19,7 +19,7 @@ returns : tie.Need-returns
 returns c = long-fails _ _ (c .before .before .before .before .args .ends .now) (count-none _ _ (c .before .page-count .ensures) (c .if1 .taken))
 
 good-header-requires : tie.Need-good-header-requires
-good-header-requires c κs = count-some _ _ (c .before .page-count .ensures) (c .if1 .left) .1
+good-header-requires c κs = let g = count-some _ _ (c .before .page-count .ensures) (c .if1 .left) in (long _ (g .0), g .1)
 
 returns-2 : tie.Need-returns-2
 returns-2 c = header-fails _ _ (c .before .before .before .before .before .before .args .ends .now) (count-some _ _ (c .before .before .before .page-count .ensures) (c .before .before .if1 .left) .0) (sym (c .before .good-header .ensures) ∙ not-true _ (c .if2 .taken))
@@ -34,7 +34,7 @@ returns-4 : tie.Need-returns-4
 returns-4 c = ends-fail _ _ (c .before .before .before .before .before .before .before .before .before .args .ends .now) (count-some _ _ (c .before .before .before .before .before .before .page-count .ensures) (c .before .before .before .before .before .if1 .left) .0) (sym (c .before .before .before .before .good-header .ensures) ∙ not-false _ (c .before .before .before .if2 .left)) (not-false _ (c .before .before .if3 .left)) (sym (c .before .all-finite .ensures) ∙ not-true _ (c .if4 .taken))
 
 returns-5 : tie.Need-returns-5
-returns-5 c = all-hold _ _ (c .before .before .before .before .before .before .before .before .before .args .ends .now) (count-some _ _ (c .before .before .before .before .before .before .page-count .ensures) (c .before .before .before .before .before .if1 .left) .0) (sym (c .before .before .before .before .good-header .ensures) ∙ not-false _ (c .before .before .before .if2 .left)) (not-false _ (c .before .before .if3 .left)) _ (count-some _ _ (c .before .before .before .before .before .before .page-count .ensures) (c .before .before .before .before .before .if1 .left) .1) (sym (c .before .all-finite .ensures) ∙ not-false _ (c .if4 .left))
+returns-5 c = all-hold _ _ (c .before .before .before .before .before .before .before .before .before .args .ends .now) (count-some _ _ (c .before .before .before .before .before .before .page-count .ensures) (c .before .before .before .before .before .if1 .left) .0) (sym (c .before .before .before .before .good-header .ensures) ∙ not-false _ (c .before .before .before .if2 .left)) (not-false _ (c .before .before .if3 .left)) (sym (c .before .all-finite .ensures) ∙ not-false _ (c .if4 .left))
 
 pub open-pool-spec : {M : Type 1} → statement M
 open-pool-spec =
