@@ -295,7 +295,7 @@ module _ (L : ℕ) (w : List ℕ) (room : 4 ≤ L) where
     pub reads : t .read ≡ take (N - 1) (upToBad L w ss)
     pub finds : t .bad ≡ false → (map (λ x. x .rec) (t .found) ≡ recordsOn L w v ss) × (length (t .read) ≡ length ss)
 
-  bound : (v : Box) (N : ℕ) (t : Tour) (ss : List Stop) → Toured L w v t ss → Bound v N (bounded L w N t) ss
+  bound : (v : Box) (N : ℕ) (t : Tour) (ss : List Stop) → Toured L w v t ss → Bound v N (bounded N t) ss
   bound v N t ss h =
       cases (λ x. Bound v N (cond x t (record { read = take (N - 1) (t .read); bad = true; found = [] })) ss) (ltb (length (t .read)) N)
       (λ y. let l = ltb→lt (length (t .read)) N y in
@@ -322,7 +322,7 @@ module _ (L : ℕ) (w : List ℕ) (room : 4 ≤ L) where
   pub list-bound : 1 ≤ pagesIn L w → (v : Box) → Bound v (pagesIn L w) (listWalk L w v) (listTrail L w v)
   list-bound n v =
       let m = levelsAt w - 1 in
-      cases (λ z. Bound v (pagesIn L w) (cond z still (bounded L w (pagesIn L w) (tour L w v m (rootAt w)))) (cond z [] (listFrom v m (rootAt w)))) (eqb (levelsAt w) 0)
+      cases (λ z. Bound v (pagesIn L w) (cond z still (bounded (pagesIn L w) (tour L w v m (rootAt w)))) (cond z [] (listFrom v m (rootAt w)))) (eqb (levelsAt w) 0)
       (λ _. record { stops = sym (lt-leb (pagesIn L w) 0 (omega arith)); reads = sym (take-nil (pagesIn L w - 1)); finds = λ e. (refl, refl) })
       (λ _. bound v (pagesIn L w) (tour L w v m (rootAt w)) (listFrom v m (rootAt w)) (toured v m (rootAt w)))
 

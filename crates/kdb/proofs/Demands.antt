@@ -23,7 +23,7 @@ use Rattle.kdb.proofs.Stands.{Stands}
 use Rattle.kdb.proofs.Views.{finite-whole}
 use Rattle.kdb.proofs.Pool.{length-iff, Sound-stands}
 use Rattle.kdb.proofs.Length.{big, four}
-use Rattle.kdb.proofs.Grow.{key-once}
+use Rattle.kdb.proofs.Remove.{key-once}
 use Rattle.kdb.proofs.Reading.{list-reads, list-once, list-count, find-reads}
 use Rattle.kdb.proofs.Windows.{good-meets, point-good, point-reads, point-path}
 use Rattle.kdb.proofs.Bad.{find-levels, find-trail, list-bound}

@@ -26,7 +26,8 @@ use Rattle.kdb.proofs.Views.{finite-whole}
 use Rattle.kdb.proofs.Print.{read-state, print-length, print-domains, print-says}
 use Rattle.kdb.proofs.Pool.{length-iff, header-iff, print-sound, sound-iff, Sound-stands}
 use Rattle.kdb.proofs.Format.{formatted-printed, none-formed, formatted-is}
-use Rattle.kdb.proofs.Grow.{placed-formed, removed-formed, key-once, Placing, Placed}
+use Rattle.kdb.proofs.Grow.{placed-formed, Placing, Placed}
+use Rattle.kdb.proofs.Remove.{removed-formed, key-once}
 use Rattle.kdb.proofs.Length.{big, roomy}
 use Rattle.kdb.proofs.Reading.{Answers, find-rootless, find-answers}
 use Rattle.kdb.proofs.History.{without-tally}

@@ -6,6 +6,7 @@ pub mod Ranks
 pub mod Split
 pub mod Fair
 pub mod Grow
+pub mod Remove
 pub mod Length
 pub mod Wanting
 pub mod Stands

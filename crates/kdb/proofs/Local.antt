@@ -171,8 +171,8 @@ module _ (L : ℕ) (w w′ : List ℕ) (pp : pagesIn L w′ ≡ pagesIn L w) (dd
       (λ e s. ap (λ u. into (seek L w′ p n) p (entsIn u)) e ∙ into-same Alike (seek L w p n) (seek L w′ p n) p (seek-same p n) (entsIn (view L w j)) s)
 
 -- the bound: walks that begin alike are stopped alike
-bounded-near : (L : ℕ) (w w′ : List ℕ) (N : ℕ) (t t′ : Tour) → Near (N - 1) t t′ → bounded L w′ N t′ ≡ bounded L w N t
-bounded-near L w w′ N t t′ n =
+bounded-near : (N : ℕ) (t t′ : Tour) → Near (N - 1) t t′ → bounded N t′ ≡ bounded N t
+bounded-near N t t′ n =
     let stop : Tour → Tour = λ t. record { read = take (N - 1) (t .read); bad = true; found = [] } in
     cases (λ z. cond (ltb (length (t′ .read)) N) t′ (stop t′) ≡ cond z t (stop t)) (ltb (length (t .read)) N)
     (λ h. let l = ltb→lt (length (t .read)) N h in
@@ -182,8 +182,8 @@ bounded-near L w w′ N t t′ n =
     let k : N ≤ length (t′ .read) = omega (arith, ap length (n .first), length-take (suc (N - 1)) (t .read), length-take (suc (N - 1)) (t′ .read)) in
     rw (le-ltb (length (t′ .read)) N k) (ap (λ l. record { read = l; bad = true; found = [] }) (take-less (N - 1) (t′ .read) (t .read) (n .first))))
 
-bounded-seen : (Q : ℕ → Type 0) (L : ℕ) (w : List ℕ) (N : ℕ) (t : Tour) → ((j : ℕ) → 1 ≤ many j (bounded L w N t .read) → Q j) → Seen Q (N - 1) (t .read)
-bounded-seen Q L w N t =
+bounded-seen : (Q : ℕ → Type 0) (N : ℕ) (t : Tour) → ((j : ℕ) → 1 ≤ many j (bounded N t .read) → Q j) → Seen Q (N - 1) (t .read)
+bounded-seen Q N t =
     cases (λ z. ((j : ℕ) → 1 ≤ many j (cond z t (record { read = take (N - 1) (t .read); bad = true; found = [] }) .read) → Q j) → Seen Q (N - 1) (t .read)) (ltb (length (t .read)) N)
     (λ h q j i. let l = ltb→lt (length (t .read)) N h in q j (rw (take-all (N - 1) (t .read) (omega arith)) at i)) (λ _ q. q)
 
@@ -203,14 +203,14 @@ module _ (L : ℕ) (big : 5 ≤ L) (w w′ : List ℕ) where
       let pp : pagesIn L w′ ≡ N = ap (λ n. n / L) (a .long) in
       let head = same-head (a .header) in
       let t : ℕ → ℕ → Tour = tour L w′ v in
-      let to : listWalk L w′ v ≡ cond (eqb (levelsAt w) 0) still (bounded L w′ N (t (levelsAt w - 1) (rootAt w))) =
-      ap (λ n. cond (eqb (levelsAt w′) 0) still (bounded L w′ n (t (levelsAt w′ - 1) (rootAt w′)))) pp
-      ∙ ap₂ (λ l r. cond (eqb l 0) still (bounded L w′ N (t (l - 1) r))) (ap (λ h. h .levels) head) (ap (λ h. h .root) head) in
-      to ∙ cases (λ z. ((j : ℕ) → 1 ≤ many j (cond z still (bounded L w N (tour L w v (levelsAt w - 1) (rootAt w))) .read) → view L w′ j ≡ view L w j)
-      → cond z still (bounded L w′ N (t (levelsAt w - 1) (rootAt w))) ≡ cond z still (bounded L w N (tour L w v (levelsAt w - 1) (rootAt w)))) (eqb (levelsAt w) 0)
+      let to : listWalk L w′ v ≡ cond (eqb (levelsAt w) 0) still (bounded N (t (levelsAt w - 1) (rootAt w))) =
+      ap (λ n. cond (eqb (levelsAt w′) 0) still (bounded n (t (levelsAt w′ - 1) (rootAt w′)))) pp
+      ∙ ap₂ (λ l r. cond (eqb l 0) still (bounded N (t (l - 1) r))) (ap (λ h. h .levels) head) (ap (λ h. h .root) head) in
+      to ∙ cases (λ z. ((j : ℕ) → 1 ≤ many j (cond z still (bounded N (tour L w v (levelsAt w - 1) (rootAt w))) .read) → view L w′ j ≡ view L w j)
+      → cond z still (bounded N (t (levelsAt w - 1) (rootAt w))) ≡ cond z still (bounded N (tour L w v (levelsAt w - 1) (rootAt w)))) (eqb (levelsAt w) 0)
       (λ _ _. refl)
-      (λ _ s. bounded-near L w w′ N _ _ (tour-near L w w′ pp (ap (λ h. h .domains) head) v (levelsAt w - 1) (rootAt w) (N - 1)
-      (bounded-seen (λ j. view L w′ j ≡ view L w j) L w N (tour L w v (levelsAt w - 1) (rootAt w)) s)))
+      (λ _ s. bounded-near N _ _ (tour-near L w w′ pp (ap (λ h. h .domains) head) v (levelsAt w - 1) (rootAt w) (N - 1)
+      (bounded-seen (λ j. view L w′ j ≡ view L w j) N (tour L w v (levelsAt w - 1) (rootAt w)) s)))
       (agree-view (listWalk L w v .read) a)
 
   pub find-same : (p : Key) → Agree L w w′ (findWalk L w p .read) → findWalk L w′ p ≡ findWalk L w p

@@ -426,8 +426,8 @@ module _ (L : ℕ) (w : List ℕ) where
   list-tree v (some t) h =
       let N = pagesIn L w in
       let l : length (reads t v) < N = omega (arith, reads-few v t h, h .formed .size) in
-      ap (λ z. cond z still (bounded L w N (tour L w v (levelsAt w - 1) (rootAt w)))) (ne-eqb (levelsAt w) 0 (λ e. omega (arith, h .levels, some-levels t)))
-      ∙ ap (λ a. bounded L w N a) (root-tour v t h)
+      ap (λ z. cond z still (bounded N (tour L w v (levelsAt w - 1) (rootAt w)))) (ne-eqb (levelsAt w) 0 (λ e. omega (arith, h .levels, some-levels t)))
+      ∙ ap (λ a. bounded N a) (root-tour v t h)
       ∙ ap (λ z. cond z (walked t v) (record { read = take (N - 1) (reads t v); bad = true; found = [] })) (lt-ltb (length (reads t v)) N l)
 
   pub find-tree : (q : Key) (s : State) → Stands L w s → findWalk L w q ≡ seeksS s q

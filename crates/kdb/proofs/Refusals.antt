@@ -27,7 +27,8 @@ use Rattle.kdb.proofs.Stands.{Stands}
 use Rattle.kdb.proofs.Pool.{length-iff, header-iff, sound-iff, Sound-stands}
 use Rattle.kdb.proofs.Walk.{walk-find}
 use Rattle.kdb.proofs.Bad.{find-six, find-eight, find-done, find-located, list-six, list-done, list-told}
-use Rattle.kdb.proofs.Grow.{key-once, Placing, claims, placed-none-iff}
+use Rattle.kdb.proofs.Grow.{Placing, claims, placed-none-iff}
+use Rattle.kdb.proofs.Remove.{key-once}
 use Rattle.kdb.proofs.Length.{big, roomy}
 use Rattle.kdb.proofs.Wanting.{ample, wanting}
 use Rattle.kdb.proofs.Reading.{Answers, find-rootless, find-answers}

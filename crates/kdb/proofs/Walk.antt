@@ -81,7 +81,7 @@ module _ (L : ℕ) (w : List ℕ) where
   list-all v P n f g =
       let N = pagesIn L w in
       let t = tour L w v (levelsAt w - 1) (rootAt w) in
-      cases (λ b. P (cond b still (bounded L w N t))) (eqb (levelsAt w) 0) (λ _. n)
+      cases (λ b. P (cond b still (bounded N t))) (eqb (levelsAt w) 0) (λ _. n)
       (λ _. cases (λ b. P (cond b t (record { read = take (N - 1) (t .read); bad = true; found = [] }))) (ltb (length (t .read)) N) (λ h. f (ltb→lt (length (t .read)) N h)) (λ _. g))
 
   pub list-length : (v : Box) → length (listWalk L w v .read) ≤ pagesIn L w - 1

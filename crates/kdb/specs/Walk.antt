@@ -50,6 +50,10 @@ abbrev pub through : (ℕ → Tour) → Box → List Ent → Tour
 through below v [] = still
 through below v (e ∷ es) = follow (cond (meets (e .box) v) (below (e .child)) still) (through below v es)
 
+-- the walk stops before page read number N, as at a bad page
+abbrev pub bounded : ℕ → Tour → Tour
+bounded N t = cond (ltb (length (t .read)) N) t (record { read = take (N - 1) (t .read); bad = true; found = [] })
+
 -- L is the words of a page, w the pool's words
 module _ (L : ℕ) (w : List ℕ) where
   -- a point page with a count within P, a region page with a count of 1 to R
@@ -66,10 +70,6 @@ module _ (L : ℕ) (w : List ℕ) where
   tour v (suc n) j =
       let below = through (tour v n) v (entsIn (view L w j)) in
       cond (isPage L w j) (cond (goodRegions j) (follow (readAt j []) below) (badAt j)) astray
-
-  -- the walk stops before page read number N, as at a bad page
-  abbrev pub bounded : ℕ → Tour → Tour
-  bounded N t = cond (ltb (length (t .read)) N) t (record { read = take (N - 1) (t .read); bad = true; found = [] })
 
   abbrev pub listWalk : Box → Tour
   listWalk v = cond (eqb (levelsAt w) 0) still (bounded (pagesIn L w) (tour v (levelsAt w - 1) (rootAt w)))

@@ -18,7 +18,8 @@ use Rattle.kdb.specs.Walk.{Spot, here, findWalk}
 use Rattle.kdb.proofs.Box.{within-length}
 use Rattle.kdb.proofs.Views.{whole-length}
 use Rattle.kdb.proofs.Stands.{Stands}
-use Rattle.kdb.proofs.Grow.{Placing, formed-fair, placed-formed, removed-formed}
+use Rattle.kdb.proofs.Grow.{Placing, formed-fair, placed-formed}
+use Rattle.kdb.proofs.Remove.{removed-formed}
 use Rattle.kdb.specs.declared.Refusal.the-variants.{NoFreePage}
 use Rattle.kdb.specs.Calls.{L, place, remove, alone, working, Outcome, gives, refuses, begins, core, placing, removing, stepped}
 use Rattle.kdb.proofs.Length.{big}

@@ -287,10 +287,10 @@ module _ (n m i : ℕ) (below : ℕ → Tour) (ch : List ℕ) (u : Tally) (out :
       rw t (sym (after-follow n (seen u out) (below (getD ch i 0)) (each below (take (m - (i + 1)) (drop (i + 1) ch)))) ∙ (rw y at q))
 
 -- the whole walk
-pub bound : (w : List ℕ) (N : ℕ) (t : Tour) (out : List ℕ) → 1 ≤ N → after N (going 0 0 out) t ≡ walked out (bounded L w N t)
+pub bound : (w : List ℕ) (N : ℕ) (t : Tour) (out : List ℕ) → 1 ≤ N → after N (going 0 0 out) t ≡ walked out (bounded N t)
 bound w N t out h = go (ltb (length (t .read)) N) refl
   where
-    go : (b : Bool) → ltb (length (t .read)) N ≡ b → after N (going 0 0 out) t ≡ walked out (bounded L w N t)
+    go : (b : Bool) → ltb (length (t .read)) N ≡ b → after N (going 0 0 out) t ≡ walked out (bounded N t)
     go true e = rw (zero-add (length (t .read)), zero-add (length (t .found)), e)
     go false e =
         let z : length (take (N - 1) (t .read)) ≡ N - 1 = omega (arith, length-take (N - 1) (t .read), ltb-false (length (t .read)) N e) in
@@ -303,7 +303,7 @@ module _ (w : List ℕ) (n k : ℕ) (f : Fit w n k) (v : Box) (out : List ℕ) w
   pub walk-some : (levelsAt w ≡ 0 → ⊥) → after n (going 0 0 out) (tour L w v (levelsAt w - 1) (rootAt w)) ≡ walked out (listWalk L w v)
   walk-some z =
       rw (ne-eqb (levelsAt w) 0 z) (bound w n (tour L w v (levelsAt w - 1) (rootAt w)) out (omega (arith, f .paged .least))
-      ∙ ap (λ (N : ℕ). walked out (bounded L w N (tour L w v (levelsAt w - 1) (rootAt w)))) (sym (pages w n (f .paged))))
+      ∙ ap (λ (N : ℕ). walked out (bounded N (tour L w v (levelsAt w - 1) (rootAt w)))) (sym (pages w n (f .paged))))
 
 pub more-room : (n : ℕ) (b : Bool) (s : Tally) → b && ltb (s .reads + 1) n ≡ true → s .reads + 1 < n
 more-room n b s t = ltb-true (s .reads + 1) n (and-t b (ltb (s .reads + 1) n) t .1)
