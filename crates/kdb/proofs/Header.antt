@@ -21,15 +21,15 @@ module _ (L : ℕ) (big : 5 ≤ L) where
   pub read-print : (h : Header) → readHeader (printHeader L h) ≡ h
   read-print h = ap readHeader (spelt h)
 
-  pub read-page : (w : List ℕ) → readHeader (page L w 0) ≡ readHeader w
-  read-page w = rw (word 0 (omega arith), word 1 (omega arith), word 2 (omega arith), word 3 (omega arith), word 4 (omega arith))
+  pub head-page : (w : List ℕ) → readHeader (page L w 0) ≡ readHeader w
+  head-page w = rw (word 0 (omega arith), word 1 (omega arith), word 2 (omega arith), word 3 (omega arith), word 4 (omega arith))
     where
       word : (i : ℕ) → i < 5 → getD (page L w 0) i 0 ≡ getD w i 0
       word i h = let e : L * 0 + i ≡ i = omega (arith, mul-zero L) in word-at L w 0 i (omega arith) ∙ ap (λ m. getD w m 0) e
 
   -- what words say whose page 0 is printed
   pub head-says : (w : List ℕ) (h : Header) → page L w 0 ≡ printHeader L h → readHeader w ≡ h
-  head-says w h e = sym (read-page w) ∙ (ap readHeader e ∙ read-print h)
+  head-says w h e = sym (head-page w) ∙ (ap readHeader e ∙ read-print h)
 
   pub print-zeros : (h : Header) → T (every (eqb 0) (drop 5 (printHeader L h)))
   print-zeros h = subst (λ l. T (every (eqb 0) (drop 5 l))) (sym (spelt h)) (pad-zeros (L - 5))

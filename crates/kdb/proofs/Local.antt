@@ -18,7 +18,7 @@ use Rattle.kdb.specs.Walk.{spots, Tour, still, astray, badAt, readAt, fo
 use Rattle.kdb.specs.Calls.{L, Call, Buffers, Outcome, Test, unless, judge, allHold, tests, core, lent, outcome, begins, Route, noWalk, toPoint, overWindow, row, readOn, walkOf}
 use Rattle.kdb.specs.Demands.{Agree, Told, walks, Local}
 use Rattle.kdb.proofs.Length.{big}
-use Rattle.kdb.proofs.Header.{read-page}
+use Rattle.kdb.proofs.Header.{head-page}
 use Rattle.kdb.proofs.Walk.{walk-begun}
 use Rattle.kdb.proofs.Lawful.{SameWalk, SameRow, lawful}
 use Rattle.kdb.proofs.Lists.{and-i, bool, cases, is-true, self, tally-front, take-past, take-less, many-append}
@@ -190,7 +190,7 @@ bounded-seen Q N t =
 module _ (L : ℕ) (big : 5 ≤ L) (w w′ : List ℕ) where
   -- the same page 0 says the same
   same-head : page L w′ 0 ≡ page L w 0 → readHeader w′ ≡ readHeader w
-  same-head e = sym (read-page L big w′) ∙ (ap readHeader e ∙ read-page L big w)
+  same-head e = sym (head-page L big w′) ∙ (ap readHeader e ∙ head-page L big w)
 
   agree-view : (read : List ℕ) → Agree L w w′ read → (j : ℕ) → 1 ≤ many j read → view L w′ j ≡ view L w j
   agree-view read a j h =

@@ -25,7 +25,7 @@ use Rattle.kdb.proofs.Tiling.{tiles-iff}
 use Rattle.kdb.proofs.Pages.{page-full, pool-ext, length-recs, recs-keys, points-fit}
 use Rattle.kdb.proofs.Views.{Seen, SeenF, own-seen, page-out, page-in, in-use, among, page-case, boxes-ents, ents-boxes, Under, whole-under, finite-whole, whole-finite, sum-records, recsAt}
 use Rattle.kdb.proofs.Stands.{Stands}
-use Rattle.kdb.proofs.Header.{read-page, print-read, print-zeros}
+use Rattle.kdb.proofs.Header.{head-page, print-read, print-zeros}
 use Rattle.kdb.proofs.Print.{numbered-ranged, some-levels, levels-few, print-length, print-header, print-page, print-says, stands, stands-seen, stands-tree, stands-state}
 
 -- the test of a well-formed state
@@ -509,7 +509,7 @@ module _ (L : ℕ) (w : List ℕ) (S : Sound L w) where
       says = rw (hd .size, r, l, c)
 
       top : page L w 0 ≡ printHeader L (headerOf k N s)
-      top = print-read L big (page L w 0) (page-full L w N 0 (g .long) (omega (arith, g .least))) (hd .zeros) ∙ ap (printHeader L) (read-page L big w ∙ says)
+      top = print-read L big (page L w 0) (page-full L w N 0 (g .long) (omega (arith, g .least))) (hd .zeros) ∙ ap (printHeader L) (head-page L big w ∙ says)
 
       each : (j : ℕ) → j < N → page L w j ≡ page L (printed L k N s) j
       each zero h = top ∙ sym (print-header L k N s big wf)
