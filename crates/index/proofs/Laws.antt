@@ -19,10 +19,12 @@ use Rattle.kdb.specs.declared.Refusal.the-variants as why
 use Rattle.kdb.specs.Calls.{L, format, place, remove, alone, working, Test, _or_, allHold, headTests, gives, refuses, goodDomains, formatted, present, removing, begins, core, outcome, Promise}
 use Rattle.kdb.proofs.Lists.{and-t, and-l, and-r, and-false, of-true, cases}
 use Rattle.kdb.proofs.Calls.{goes-on, judge-past}
-use Rattle.kdb.proofs.Pool.{sound-iff, header-iff}
+use Rattle.kdb.proofs.Pool.{sound-iff, length-iff, header-iff}
+use Rattle.kdb.proofs.Format.{formatted-words}
 use Rattle.kdb.proofs.Walk.{Named, Ends, find-named}
-use Rattle.words.specs.Words.{Paged, Fit}
-use Rattle.words.proofs.Laws.{pages, cleared}
+use Rattle.kdb.specs.declared.Form.{Form}
+use Rattle.words.specs.Words.{formOf, Fit}
+use Rattle.words.proofs.Laws.{long, cleared}
 use Rattle.walk.specs.declared.Sought.{Sought}
 use Rattle.walk.specs.declared.Sought.the-variants.{Here, Absent, Bad, NoRoot}
 use Rattle.walk.specs.Seek.{ended}
@@ -31,8 +33,8 @@ use Rattle.steps.specs.Place.{placeIn}
 use Rattle.steps.specs.Remove.{removeIn}
 use Rattle.steps.proofs.Promise.{place-core, remove-core}
 use Rattle.place.specs.Steps.{Room}
-use Rattle.opening.specs.declared.Opened.{Opened}
-use Rattle.opening.specs.declared.Opened.the-variants.{Refused}
+use Rattle.opening.specs.declared.Finished.{Finished}
+use Rattle.opening.specs.declared.Finished.the-variants.{Refused}
 use Rattle.opening.specs.Opens.{Opens}
 use Rattle.opening.proofs.Laws.{headed, hold-more, refused-kept}
 use Rattle.index.specs.declared.Removed.{Removed}
@@ -53,10 +55,11 @@ module _ (w : List ℕ) (k : ℕ) where
   unfolding outcome
   format-done h d = rw (h, d)
 
-pub formats : (w : List ℕ) (n k : ℕ) → Paged w n → set (set (sets w 0 (replicate (length w - 0) 0)) 0 k) 1 n ≡ formatted w k
-formats w n k g =
-    let two : length w ≡ suc (suc (length w - 2)) = omega (arith, g .words, g .least) in
-    rw (sub-zero (length w), cleared w, pages w n g) (go (length w) (length w - 2) two)
+pub formats : (w : List ℕ) (n k : ℕ) → goodLength L w ≡ true → n ≡ pagesIn L w → set (set (sets w 0 (replicate (length w - 0) 0)) 0 k) 1 n ≡ formatted w k
+formats w n k h e =
+    let g = long w h in
+    let two : length w ≡ suc (suc (length w - 2)) = omega (arith, g .long, g .least) in
+    rw (sub-zero (length w), cleared w) (go (length w) (length w - 2) two) ∙ (rw e (sym (formatted-words w k (of-true (goodLength L w) h))))
   where
     go : (l m : ℕ) → l ≡ suc (suc m) → set (set (replicate l 0) 0 k) 1 n ≡ k ∷ n ∷ replicate m 0
     go l m e = rw e
@@ -86,17 +89,20 @@ sum-few : (f : ℕ → ℕ) → ((j : ℕ) → f j ≤ 28) → (m c : ℕ) → s
 sum-few f h zero c = omega arith
 sum-few f h (suc m) c = omega (arith, h c, sum-few f h m (suc c))
 
-module _ (w : List ℕ) (n : ℕ) (g : Paged w n) (s : Sound L w) where
+module _ (w : List ℕ) (s : Sound L w) where
+  few : pagesIn L w ≤ 512
+  few = length-iff L w .0 (s .words) .most
+
   slots-few : (j : ℕ) → length (recsIn (view L w j)) ≤ 28
   slots-few j = omega (arith, s .pointRoom j, div-le-self 28 (domains w + 1))
 
   pub count-few : countAt w + 1 < 4294967296
-  count-few = omega (arith, s .counted, sum-few (λ j. length (recsIn (view L w j))) slots-few (pagesIn L w - 1) 1, pages w n g, g .most)
+  count-few = omega (arith, s .counted, sum-few (λ j. length (recsIn (view L w j))) slots-few (pagesIn L w - 1) 1, few)
 
   page-near : (j : ℕ) → 1 ≤ length (recsIn (view L w j)) → j < 4294967296
   page-near j h =
       cases (λ t. 1 ≤ length (recsIn (cond t (readPage (domains w) (page L w j)) blank)) → j < 4294967296) (leb 1 j && ltb j (pagesIn L w))
-      (λ t _. omega (arith, ltb→lt j (pagesIn L w) (and-r (leb 1 j) (ltb j (pagesIn L w)) t), pages w n g, g .most)) (λ _ q. absurd (omega arith)) h
+      (λ t _. omega (arith, ltb→lt j (pagesIn L w) (and-r (leb 1 j) (ltb j (pagesIn L w)) t), few)) (λ _ q. absurd (omega arith)) h
 
   pub spot-near : (x : Spot) → Named L w x → (x .page < 4294967296) × (x .slot < 4294967296)
   spot-near x m = (page-near (x .page) (omega (arith, m .slot)), omega (arith, m .slot, slots-few (x .page)))
@@ -135,9 +141,9 @@ here-of r (absent m) j i loc q h = absurd (let z : _≡_ {A = ℕ} 0 1 = cc in o
 here-of r (here x) j i loc q h = record { spot = x; is = refl; page = cc; slot = cc; loc = cc }
 
 -- remove whose pool was not opened
-pub remove-refused : (w p : List ℕ) (k : ℕ) → k ≡ domains w → (q : Opened) → Opens w (opening w (eqb (length p) k) p) q → (r : Refusal) → Refused r ≡ q
+pub remove-refused : (w p : List ℕ) (f : Form) → f ≡ formOf w → (q : Finished) → Opens w (opening w (eqb (length p) (f .domains)) p) q → (r : Refusal) → Refused r ≡ q
     → Promise w (remove p) (refuses r (alone w))
-remove-refused w p k e q o r z = refused-kept w _ q o (remove p) [] r z (ap (λ m. opening w (eqb (length p) m) p) (sym e))
+remove-refused w p f e q o r z = refused-kept w _ q o (remove p) [] r z (ap (λ g. opening w (eqb (length p) (g .domains)) p) (sym e))
 
 -- the answer of a search that did not find the record, as remove's
 abbrev pub missing : Sought → Removed
@@ -153,14 +159,14 @@ removing-missing w p r (absent j) s h z = rw h
 removing-missing w p r (here x) s h z = absurd (let y : isHere (ended r (here x)) ≡ false = ap isHere (sym h) ∙ z in let o : _≡_ {A = ℕ} 1 0 = ap (λ b. cond b 1 0) y in omega arith)
 
 -- remove on a pool that was opened
-module _ (w p : List ℕ) (k n : ℕ) (e : k ≡ domains w) (h : Fit w n (domains w) × T (allHold (opening w (eqb (length p) k) p))) where
+module _ (w p : List ℕ) (f : Form) (e : f ≡ formOf w) (h : Fit w (formOf w) × T (allHold (opening w (eqb (length p) (f .domains)) p))) where
   begun : T (begins w (remove p))
-  begun = subst (λ m. T (allHold (opening w (eqb (length p) m) p))) e (h .1)
+  begun = subst (λ g. T (allHold (opening w (eqb (length p) (g .domains)) p))) e (h .1)
 
   pub remove-near : (j i loc : ℕ) → Found (findWalk L w p .end) j i loc → (domains w ≤ 4) × ((j < 4294967296) × (i < 4294967296))
   remove-near j i loc o =
       let m : Ends (λ x. Named L w x × (x .rec .key ≡ p)) (here (o .spot)) = subst (Ends (λ x. Named L w x × (x .rec .key ≡ p))) (o .is) (find-named L w p) in
-      let q = spot-near w n (h .0 .paged) (well w (eqb (length p) k) p (h .1)) (o .spot) (m .0) in
+      let q = spot-near w (well w (eqb (length p) (f .domains)) p (h .1)) (o .spot) (m .0) in
       (h .0 .few, (omega (arith, q .0, o .page), omega (arith, q .1, o .slot)))
 
   pub remove-done : (j i loc : ℕ) → Found (findWalk L w p .end) j i loc → gives (loc ∷ []) (alone (removeIn L j i w)) ≡ outcome w (remove p)
@@ -170,35 +176,35 @@ module _ (w p : List ℕ) (k n : ℕ) (e : k ≡ domains w) (h : Fit w n (domain
   remove-missing r s q z = record { kept = removing-missing w p r (findWalk L w p .end) s q z ∙ sym (goes-on w (remove p) begun) }
 
 -- place whose pool was not opened
-abbrev pub placeFits : List ℕ → List ℕ → List ℕ → ℕ → Bool
-placeFits w work p k = eqb (length p) k && eqb (length work) (length w)
+abbrev pub placeFits : List ℕ → List ℕ → List ℕ → Form → Bool
+placeFits w work p f = eqb (length p) (f .domains) && eqb (length work) (length w)
 
-pub place-refused : (w work p : List ℕ) (l k : ℕ) → k ≡ domains w → (q : Opened) → Opens w (opening w (placeFits w work p k) p) q → (r : Refusal) → Refused r ≡ q
+pub place-refused : (w work p : List ℕ) (l : ℕ) (f : Form) → f ≡ formOf w → (q : Finished) → Opens w (opening w (placeFits w work p f) p) q → (r : Refusal) → Refused r ≡ q
     → Promise w (place work p l) (refuses r (working work w))
-place-refused w work p l k e q o r z =
+place-refused w work p l f e q o r z =
     refused-kept w _ q o (place work p l) ((not (present (findWalk L w p .end)) or why.Present) ∷ []) r z
     (ap (λ m. opening w (placeFits w work p m) p ++ ((not (present (findWalk L w p .end)) or why.Present) ∷ [])) (sym e))
 
 -- place on a pool that was opened
-module _ (w work p : List ℕ) (l k n : ℕ) (e : k ≡ domains w) (h : Fit w n (domains w) × T (allHold (opening w (placeFits w work p k) p))) where
-  pub place-fit : Fit w n k × ((length p ≡ k) × (length work ≡ length w))
+module _ (w work p : List ℕ) (l : ℕ) (f : Form) (e : f ≡ formOf w) (h : Fit w (formOf w) × T (allHold (opening w (placeFits w work p f) p))) where
+  pub place-fit : Fit w f × ((length p ≡ f .domains) × (length work ≡ length w))
   place-fit =
-      let b = and-t (eqb (length p) k) (eqb (length work) (length w)) (headed w (placeFits w work p k) p ((sound L w or why.Unsound) ∷ []) (h .1) .fits) in
-      (subst (Fit w n) (sym e) (h .0), (eqb-true (length p) k (b .0), eqb-true (length work) (length w) (b .1)))
+      let b = and-t (eqb (length p) (f .domains)) (eqb (length work) (length w)) (headed w (placeFits w work p f) p ((sound L w or why.Unsound) ∷ []) (h .1) .fits) in
+      (subst (Fit w) (sym e) (h .0), (eqb-true (length p) (f .domains) (b .0), eqb-true (length work) (length w) (b .1)))
 
-  held : T (allHold (opening w (placeFits w work p (domains w)) p))
+  held : T (allHold (opening w (placeFits w work p (formOf w)) p))
   held = subst (λ m. T (allHold (opening w (placeFits w work p m) p))) e (h .1)
 
   pub place-present : present (findWalk L w p .end) ≡ true → Promise w (place work p l) (refuses why.Present (working work w))
   unfolding outcome
   place-present q =
       record {
-        kept = sym (judge-past (opening w (placeFits w work p (domains w)) p) ((not (present (findWalk L w p .end)) or why.Present) ∷ []) (working work w) (core w (place work p l)) held ∙ rw q refl);
+        kept = sym (judge-past (opening w (placeFits w work p (formOf w)) p) ((not (present (findWalk L w p .end)) or why.Present) ∷ []) (working work w) (core w (place work p l)) held ∙ rw q refl);
       }
 
   module _ (q : present (findWalk L w p .end) ≡ false) where
     places : T (begins w (place work p l))
-    places = hold-more (not (present (findWalk L w p .end))) why.Present (opening w (placeFits w work p (domains w)) p) (of-true (not (present (findWalk L w p .end))) (ap not q)) held
+    places = hold-more (not (present (findWalk L w p .end))) why.Present (opening w (placeFits w work p (formOf w)) p) (of-true (not (present (findWalk L w p .end))) (ap not q)) held
 
     pub place-room : l < 4294967296 → Room n w p l × (length work ≡ length w)
     place-room b =

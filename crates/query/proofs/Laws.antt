@@ -15,14 +15,16 @@ use Rattle.kdb.specs.declared.Refusal.the-variants.{Unsound, Absent, WindowOrde
 use Rattle.kdb.specs.Calls.{L, find, list, alone, answering, gives, refuses, _or_, judge, allHold, headTests, windowOf, ordered, finding, listing, outcome, Promise}
 use Rattle.kdb.proofs.Lists.{sets-fill}
 use Rattle.kdb.proofs.Calls.{goes-on, judge-past}
+use Rattle.kdb.specs.declared.Form.{Form}
+use Rattle.words.specs.Words.{formOf}
 use Rattle.words.proofs.Laws.{cleared}
 use Rattle.walk.specs.declared.Sought.{Sought}
 use Rattle.walk.specs.declared.Sought.the-variants as seeks
 use Rattle.walk.specs.declared.Tally.{Tally}
-use Rattle.walk.specs.Seek.{ended, told}
+use Rattle.walk.specs.Seek.{ended, soughtAs}
 use Rattle.walk.specs.List.{seen, locations, walked}
-use Rattle.opening.specs.declared.Opened.{Opened}
-use Rattle.opening.specs.declared.Opened.the-variants.{Refused}
+use Rattle.opening.specs.declared.Finished.{Finished}
+use Rattle.opening.specs.declared.Finished.the-variants.{Refused}
 use Rattle.opening.specs.Opens.{Opens}
 use Rattle.opening.proofs.Laws.{refused-kept}
 use Rattle.query.specs.declared.Found.{Found}
@@ -36,7 +38,7 @@ answerOf (seeks.Absent j r) = finds.Refused Absent
 answerOf (seeks.Bad r) = finds.Refused Unsound
 answerOf seeks.NoRoot = finds.Refused Absent
 
-answers : (g : Search) (w : List ℕ) → foundAs (answerOf (told 0 g)) (alone w) ≡ finding g (alone w)
+answers : (g : Search) (w : List ℕ) → foundAs (answerOf (soughtAs 0 g)) (alone w) ≡ finding g (alone w)
 answers g w = rw (zero-add (length (g .read))) (go (g .end))
   where
     go : (e : End) → foundAs (answerOf (ended (length (g .read)) e)) (alone w) ≡ elim e [ rootless ↦ refuses Absent (alone w) | bad ↦ refuses Unsound (alone w) | absent j ↦ refuses Absent (alone w) | here s ↦ gives (s .rec .loc ∷ length (g .read) ∷ []) (alone w) ]
@@ -46,32 +48,35 @@ answers g w = rw (zero-add (length (g .read))) (go (g .end))
     go (here s) = refl
 
 -- find whose pool was not opened
-pub find-refused : (w p : List ℕ) (k : ℕ) → k ≡ domains w → (q : Opened) → Opens w (headTests w (eqb (length p) k) p) q → (r : Refusal) → Refused r ≡ q
+pub find-refused : (w p : List ℕ) (f : Form) → f ≡ formOf w → (q : Finished) → Opens w (headTests w (eqb (length p) (f .domains)) p) q → (r : Refusal) → Refused r ≡ q
     → Promise w (find p) (refuses r (alone w))
-find-refused w p k e q o r z = refused-kept w _ q o (find p) [] r z (ap (λ m. headTests w (eqb (length p) m) p) (sym e))
+find-refused w p f e q o r z = refused-kept w _ q o (find p) [] r z (ap (λ g. headTests w (eqb (length p) (g .domains)) p) (sym e))
 
 -- find on a pool that was opened
-module _ (w p : List ℕ) (k : ℕ) (e : k ≡ domains w) (h : T (allHold (headTests w (eqb (length p) k) p))) where
-  pub find-kept : (s : Sought) → s ≡ told 0 (findWalk L w p) → Promise w (find p) (foundAs (answerOf s) (alone w))
+module _ (w p : List ℕ) (f : Form) (e : f ≡ formOf w) (h : T (allHold (headTests w (eqb (length p) (f .domains)) p))) where
+  pub find-kept : (s : Sought) → s ≡ soughtAs 0 (findWalk L w p) → Promise w (find p) (foundAs (answerOf s) (alone w))
   find-kept s q =
       record {
         kept = ap (λ x. foundAs (answerOf x) (alone w)) q
-            ∙ (answers (findWalk L w p) w ∙ sym (goes-on w (find p) (subst (λ m. T (allHold (headTests w (eqb (length p) m) p))) e h)));
+            ∙ (answers (findWalk L w p) w ∙ sym (goes-on w (find p) (subst (λ g. T (allHold (headTests w (eqb (length p) (g .domains)) p))) e h)));
       }
 
 -- list whose pool was not opened
-pub list-refused : (w v out : List ℕ) (k : ℕ) → k ≡ domains w → (q : Opened) → Opens w (headTests w (eqb (length v) (2 * k)) v) q → (r : Refusal) → Refused r ≡ q
-    → Promise w (list v out) (refuses r (answering out w))
-list-refused w v out k e q o r z =
+pub list-refused : (w v out : List ℕ) (f : Form) → f ≡ formOf w → (q : Finished) → Opens w (headTests w (eqb (length v) (2 * f .domains)) v) q → (r : Refusal)
+    → Refused r ≡ q → Promise w (list v out) (refuses r (answering out w))
+list-refused w v out f e q o r z =
     refused-kept w _ q o (list v out) ((ordered (windowOf (domains w) v) or WindowOrder) ∷ []) r z
-    (ap (λ m. headTests w (eqb (length v) (2 * m)) v ++ ((ordered (windowOf (domains w) v) or WindowOrder) ∷ [])) (sym e))
+    (ap (λ g. headTests w (eqb (length v) (2 * g .domains)) v ++ ((ordered (windowOf (domains w) v) or WindowOrder) ∷ [])) (sym e))
 
 -- list on a pool that was opened
-module _ (w v out : List ℕ) (k : ℕ) (e : k ≡ domains w) (h : T (allHold (headTests w (eqb (length v) (2 * k)) v))) where
+module _ (w v out : List ℕ) (f : Form) (e : f ≡ formOf w) (h : T (allHold (headTests w (eqb (length v) (2 * f .domains)) v))) where
+  abbrev k : ℕ
+  k = f .domains
+
   by-head : outcome w (list v out) ≡ judge ((ordered (windowOf k v) or WindowOrder) ∷ []) (answering out w) (listing (listWalk L w (windowOf k v)) w out)
   unfolding outcome
   by-head =
-      ap (λ m. judge (headTests w (eqb (length v) (2 * m)) v ++ ((ordered (windowOf m v) or WindowOrder) ∷ [])) (answering out w) (listing (listWalk L w (windowOf m v)) w out)) (sym e)
+      ap (λ g. judge (headTests w (eqb (length v) (2 * g .domains)) v ++ ((ordered (windowOf (g .domains) v) or WindowOrder) ∷ [])) (answering out w) (listing (listWalk L w (windowOf (g .domains) v)) w out)) (sym e)
       ∙ judge-past (headTests w (eqb (length v) (2 * k)) v) ((ordered (windowOf k v) or WindowOrder) ∷ []) (answering out w) (listing (listWalk L w (windowOf k v)) w out) h
 
   pub list-crossed : ordered (windowOf k v) ≡ false → refuses WindowOrder (answering out w) ≡ outcome w (list v out)
