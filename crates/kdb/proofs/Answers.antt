@@ -15,7 +15,9 @@ use Rattle.kdb.specs.Print.{stateOf}
 use Rattle.kdb.specs.Walk.{Spot, Tour, listWalk, End, rootless, bad, absent, here, Search, findWalk}
 use Rattle.kdb.specs.Calls.{L, find, list, lent, Buffers, finite, windowOf, ordered, begins, finding, listing, filled, outcome}
 use Rattle.kdb.specs.Demands.{SameRecords, keyed, inside, goodWindow, goodPoint, ListsExactly, FindsExactly}
-use Rattle.kdb.proofs.Lists.{In, and-l, and-r, and-i, bool, bit-most, length-only, same-refl}
+use Rattle.kdb.proofs.Tests.{and-l, and-r, and-i, bool, bit-most}
+use Rattle.kdb.proofs.Lists.{same-refl}
+use Rattle.kdb.proofs.Counts.{In, length-only}
 use Rattle.kdb.proofs.Stands.{Stands}
 use Rattle.kdb.proofs.Views.{finite-whole}
 use Rattle.kdb.proofs.Length.{big}

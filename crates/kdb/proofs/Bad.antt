@@ -20,7 +20,9 @@ use Rattle.kdb.specs.Bad.{Stop, spoilt, kindAt, sizeAt, badPage, badFor,
 use Rattle.kdb.specs.Calls.{L, Buffers, finding, listing}
 use Rattle.kdb.specs.Demands.{keyed, slotted}
 use Rattle.kdb.proofs.Length.{four}
-use Rattle.kdb.proofs.Lists.{cases, and-l, is-true, is-false, some-many, length-only, gather-append}
+use Rattle.kdb.proofs.Tests.{cases, and-l, is-true, is-false, some-many}
+use Rattle.kdb.proofs.Lists.{gather-append}
+use Rattle.kdb.proofs.Counts.{length-only}
 use Rattle.kdb.proofs.Pages.{word-at}
 use Rattle.kdb.proofs.Walk.{seek-all, find-all}
 use Rattle.kdb.proofs.Reading.{spots-only}

@@ -8,7 +8,7 @@ use native.Mathlib.Omega.{arith}
 use lib.Dec.{T, leb, ltb, leb→le, le→leb, ltb→lt, lt→ltb}
 use lib.ListN.{length}
 use Rattle.kdb.specs.Box.{Side, Box, Key, within, inWindow, meets}
-use Rattle.kdb.proofs.Lists.{and-l, and-r, and-i}
+use Rattle.kdb.proofs.Tests.{and-l, and-r, and-i}
 
 -- the tests of one side, and the rest
 pub within-i : (s : Side) (x : ℕ) (b : Box) (p : Key) → s .lo ≤ x → x < s .hi → T (within b p) → T (within (s ∷ b) (x ∷ p))

@@ -10,7 +10,7 @@ use Rattle.kdb.specs.Lists.{every}
 use Rattle.kdb.specs.declared.Refusal.{Refusal}
 use Rattle.kdb.specs.declared.Refusal.the-variants.{PoolLength, Domains, BufferLength, InfiniteKey, WindowOrder, Unsound, Present, Absent, NoFreePage}
 use Rattle.kdb.specs.Calls.{Call, Buffers, lent, Outcome, refuses, numberOf, Test, unless, judge, allHold, tests, core, begins, outcome, Promise}
-use Rattle.kdb.proofs.Lists.{and-l, and-r, is-true, of-true}
+use Rattle.kdb.proofs.Tests.{and-l, and-r, is-true, of-true}
 
 -- a property of every refusal, and of what the call does once its tests hold, holds of the call
 pub judge-after : (P : Outcome → Type 0) (ts : List Test) (b : Buffers) (o : Outcome) → ((r : Refusal) → P (refuses r b)) → (T (allHold ts) → P o)

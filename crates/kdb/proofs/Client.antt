@@ -12,7 +12,9 @@ use Rattle.kdb.specs.Lists.{every, Each, gather, andThen}
 use Rattle.kdb.specs.Calls.{L, Call, format, place, remove, find, list, Outcome, outcome}
 use Rattle.kdb.specs.Frames.{between, digit, bytesOf, wordsOf, digitOf, hex, new, call, unknown, placeOf, slots, withWords, frameOf, framed, parse, found, answerText, Reply, renewed, answered, obey, reply, lines, session}
 use Rattle.kdb.specs.Client.{digits, byteText, wordText, Word, answerLine, Answered, Renewed, NoFrame, hexadecimal, upper, Client}
-use Rattle.kdb.proofs.Lists.{and-l, and-r, cases, every-up, each-append}
+use Rattle.kdb.proofs.Tests.{and-l, and-r, cases}
+use Rattle.kdb.proofs.Lists.{each-append}
+use Rattle.kdb.proofs.Counts.{every-up}
 use Rattle.kdb.proofs.Frames.{new-other, reply-long, lines-break, lines-last}
 
 -- the sixteen digits, by computing

@@ -18,7 +18,7 @@ use Rattle.kdb.specs.Calls.{L, Call, format, find, list, Outcome, finite
 use Rattle.kdb.specs.History.{answerOf, unchanged, makes, changed, live, Keeps, over, next}
 use Rattle.kdb.specs.Demands.{SameRecords, keyed, ListsExactly, FindsExactly, ByTheSteps, Built, unbuilt, onto, Demand2, goodWindow, Shares, Demand3, Bounded}
 use Rattle.kdb.proofs.Walk.{walk-pages, walk-silent, walk-find, walk-list, list-returns, find-returns}
-use Rattle.kdb.proofs.Lists.{and-l, and-r}
+use Rattle.kdb.proofs.Tests.{and-l, and-r}
 use Rattle.kdb.proofs.Stands.{Stands}
 use Rattle.kdb.proofs.Views.{finite-whole}
 use Rattle.kdb.proofs.Pool.{length-iff, Sound-stands}

@@ -20,7 +20,9 @@ use Rattle.kdb.specs.Walk.{Spot, End, rootless, bad, absent, here, findW
 use Rattle.kdb.specs.Calls.{L, place, remove, goodDomains, finite, present, formatted, placing, removing, stepped, begins}
 use Rattle.kdb.specs.History.{Effect, unchanged, emptied, added, dropped, change}
 use Rattle.kdb.specs.Demands.{SameRecords, keyed, Formatted, SameSize, Moves}
-use Rattle.kdb.proofs.Lists.{and-l, and-r, and-i, bool, tally-append, to-bit, no-bit, same-refl, In}
+use Rattle.kdb.proofs.Tests.{and-l, and-r, and-i, bool, to-bit, no-bit}
+use Rattle.kdb.proofs.Lists.{same-refl}
+use Rattle.kdb.proofs.Counts.{tally-append, In}
 use Rattle.kdb.proofs.Stands.{Stands}
 use Rattle.kdb.proofs.Views.{finite-whole}
 use Rattle.kdb.proofs.Print.{read-state, print-length, print-domains, print-says}

@@ -16,7 +16,9 @@ use Rattle.kdb.specs.Pages.{blank, points, regions, pointsPer, isPoints,
 use Rattle.kdb.specs.Pool.{domains, rootAt, levelsAt, view, isPage}
 use Rattle.kdb.specs.Walk.{Spot, spots, Tour, goodPoints, listWalk, End, findWalk}
 use Rattle.kdb.specs.Calls.{L}
-use Rattle.kdb.proofs.Lists.{cases, and-r, only-most, each-take, each-drop}
+use Rattle.kdb.proofs.Tests.{cases, and-r}
+use Rattle.kdb.proofs.Lists.{each-take, each-drop}
+use Rattle.kdb.proofs.Counts.{only-most}
 use Rattle.kdb.proofs.Walk.{tour-all, list-all, Ends, find-ends}
 
 abbrev pub Word : ℕ → Type 0

@@ -15,7 +15,8 @@ use Rattle.kdb.specs.Pool.{pagesIn, goodLength}
 use Rattle.kdb.specs.Print.{headerOf, printed}
 use Rattle.kdb.specs.Calls.{L, goodDomains, formatted}
 use Rattle.kdb.specs.Demands.{Formatted}
-use Rattle.kdb.proofs.Lists.{and-l, and-r, pad-nil}
+use Rattle.kdb.proofs.Tests.{and-l, and-r}
+use Rattle.kdb.proofs.Stores.{pad-nil}
 use Rattle.kdb.proofs.Pool.{length-iff}
 
 -- n free pages

@@ -14,7 +14,7 @@ use Rattle.kdb.specs.declared.Refusal.{Refusal}
 use Rattle.kdb.specs.declared.Refusal.the-variants.{PoolLength, Domains}
 use Rattle.kdb.specs.Calls.{L, format, place, Buffers, alone, lent, Outcome, gives, refuses, Test, unless, judge, tests, goodDomains, formatted, placing, stepped, outcome}
 use Rattle.kdb.specs.Frames.{unknown, newOf, Reply, refusal, renewed, lines, reply}
-use Rattle.kdb.proofs.Lists.{and-l, and-r, is-false}
+use Rattle.kdb.proofs.Tests.{and-l, and-r, is-false}
 
 -- the outcome without the work buffer
 abbrev pub apartWork : Outcome → Outcome

@@ -18,7 +18,9 @@ use Rattle.kdb.specs.Tiling.{Tiles, holders}
 use Rattle.kdb.specs.Pages.{regionsPer, pointsPer}
 use Rattle.kdb.specs.Shape.{differ, RegionPage, Shaped, ShapedF, ShapedS, Numbered, WellFormed}
 use Rattle.kdb.specs.Steps.{freeOf, afterChosen, split, Up, failed, fits, parts, UpF, failedF, kept, wider, size, joinF, parted, enter, behind, chosen, settleNode, grow, growF, newRoot, topped, first, placed}
-use Rattle.kdb.proofs.Lists.{and-l, and-r, and-i, bool, by-case, is-true, is-false, to-bit, no-bit, tally-append, every-append, same-eq, same-refl, In, in-head, in-tail, every-in, tally-only, tally-take, many-only, upFrom-in, upFrom-once}
+use Rattle.kdb.proofs.Tests.{and-l, and-r, and-i, bool, by-case, is-true, is-false, to-bit, no-bit}
+use Rattle.kdb.proofs.Lists.{every-append, same-eq, same-refl}
+use Rattle.kdb.proofs.Counts.{tally-append, In, in-head, in-tail, every-in, tally-only, tally-take, many-only, upFrom-in, upFrom-once}
 use Rattle.kdb.proofs.Tiling
 use Rattle.kdb.proofs.Tiling.{tiles-counted, counted-tiles, Inside, on, part, part-solid, two-hold, two-tile}
 use Rattle.kdb.proofs.Box.{within-length}

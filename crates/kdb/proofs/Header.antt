@@ -10,7 +10,7 @@ use lib.Seq.{sets}
 use Rattle.kdb.specs.Lists.{every, pad}
 use Rattle.kdb.specs.Pages.{page}
 use Rattle.kdb.specs.Header.{Header, headerWords, printHeader, readHeader}
-use Rattle.kdb.proofs.Lists.{zeros-pad, pad-zeros}
+use Rattle.kdb.proofs.Stores.{zeros-pad, pad-zeros}
 use Rattle.kdb.proofs.Pages.{word-at}
 
 module _ (L : ℕ) (big : 5 ≤ L) where

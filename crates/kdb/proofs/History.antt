@@ -12,7 +12,8 @@ use Rattle.kdb.specs.Steps.{without}
 use Rattle.kdb.specs.Calls.{Call, Outcome, outcome}
 use Rattle.kdb.specs.History.{answerOf, run, answers, Effect, unchanged, emptied, added, dropped, makes, change, changed, Keeps, over, next}
 use Rattle.kdb.specs.Demands.{SameRecords, keyed}
-use Rattle.kdb.proofs.Lists.{and-l, tally-append, tally-imp}
+use Rattle.kdb.proofs.Tests.{and-l}
+use Rattle.kdb.proofs.Counts.{tally-append, tally-imp}
 
 -- without the record of a key that stands once at the most: the counts lose what that record counts
 pub without-tally : (p : Key) (g : Rec → Bool) (rs : List Rec) → tally (keyed p) rs ≤ 1

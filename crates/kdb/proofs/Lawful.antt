@@ -17,7 +17,7 @@ use Rattle.kdb.specs.declared.Refusal.the-variants.{WindowOrder, Unsound
 use Rattle.kdb.specs.Calls.{L, Call, format, check, place, remove, find, list, Buffers, alone, lent, Outcome, gives, refuses, numberOf, Test, _or_, allHold, headTests, tests, core, begins, goodDomains, ordered, windowOf, placing, stepped, removing, finding, listing, Route, noWalk, toPoint, overWindow, Row, row, readOn, walkOf, outcome}
 use Rattle.kdb.specs.History.{Effect, makes}
 use Rattle.kdb.specs.Demands.{givenTo, headed, fitting, endsIn, walks, Told}
-use Rattle.kdb.proofs.Lists.{and-l, and-r, cases}
+use Rattle.kdb.proofs.Tests.{and-l, and-r, cases}
 use Rattle.kdb.proofs.Pool.{length-iff, header-iff}
 use Rattle.kdb.proofs.Walk.{list-length, find-length, route-bound}
 use Rattle.kdb.proofs.Fits.{Word, SitedEnd, find-sited, list-few}

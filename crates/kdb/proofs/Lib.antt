@@ -1,4 +1,7 @@
+pub mod Tests
 pub mod Lists
+pub mod Counts
+pub mod Stores
 pub mod Box
 pub mod Tiling
 pub mod Cut

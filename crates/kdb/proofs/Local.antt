@@ -21,7 +21,9 @@ use Rattle.kdb.proofs.Length.{big}
 use Rattle.kdb.proofs.Header.{head-page}
 use Rattle.kdb.proofs.Walk.{walk-begun}
 use Rattle.kdb.proofs.Lawful.{SameWalk, SameRow, lawful}
-use Rattle.kdb.proofs.Lists.{and-i, bool, cases, is-true, self, tally-front, take-past, take-less, many-append}
+use Rattle.kdb.proofs.Tests.{and-i, bool, cases, is-true, self}
+use Rattle.kdb.proofs.Lists.{take-past, take-less}
+use Rattle.kdb.proofs.Counts.{tally-front, many-append}
 
 -- the walks begin with the same m + 1 pages and, if the first reads no more than m, are the same
 pub record Near (m : ℕ) (a b : Tour) : Type 0 where

@@ -15,7 +15,8 @@ use Rattle.kdb.specs.Tree.{Tree, leaf, node, Forest, fnil, fcons, State,
 use Rattle.kdb.specs.Pages.{Ent, blank, regions, entsIn, inUse}
 use Rattle.kdb.specs.Pool.{domains, rootAt, pagesIn, numbers, view, naming, ownRegion}
 use Rattle.kdb.specs.Print.{ents, orPage, pageOf, pageOfF}
-use Rattle.kdb.proofs.Lists.{self, to-bit, of-true, is-true, tally-append, many-append, many-up, tally-gather}
+use Rattle.kdb.proofs.Tests.{self, to-bit, of-true, is-true}
+use Rattle.kdb.proofs.Counts.{tally-append, many-append, many-up, tally-gather}
 use Rattle.kdb.proofs.Views.{at, miss, among, or-first, page-in, page-out}
 use Rattle.kdb.proofs.Stands.{Stands}
 

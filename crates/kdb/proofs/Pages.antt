@@ -12,7 +12,9 @@ use Rattle.kdb.specs.Lists.{Each, gather, pad, upFrom}
 use Rattle.kdb.specs.Box.{Box, sides}
 use Rattle.kdb.specs.Tree.{Rec}
 use Rattle.kdb.specs.Pages.{Ent, Page, blank, points, regions, pointsPer, regionsPer, recsIn, entsIn, wordsR, wordsE, printPage, readRecs, readEnts, readPage, page}
-use Rattle.kdb.proofs.Lists.{bool, each-map, drop-take, length-gather, length-pad, pad-tail}
+use Rattle.kdb.proofs.Tests.{bool}
+use Rattle.kdb.proofs.Lists.{each-map, drop-take, length-gather}
+use Rattle.kdb.proofs.Stores.{length-pad, pad-tail}
 
 -- n entries of d words each, one read by f from its first word on
 abbrev reads {ℓ} : {A : Type ℓ} → ℕ → (List ℕ → A) → ℕ → List ℕ → List A

@@ -20,7 +20,9 @@ use Rattle.kdb.specs.Shape.{differ, PointPage, RegionPage, Shaped, Shape
 use Rattle.kdb.specs.Pages.{Ent, Page, blank, points, regions, regionsPer, pointsPer, domain, recsIn, entsIn, boxesIn, isPoints, isRegions, inUse, printPage, readRecs, readEnts, readPage, page}
 use Rattle.kdb.specs.Pool.{domains, rootAt, levelsAt, countAt, pagesIn, goodLength, goodHeader, GoodLength, GoodHeader, view, numbers, reachedFrom, reached, Paths, Sound}
 use Rattle.kdb.specs.Print.{ents, pageOf, pageAt, headerOf, forest, printed, treeAt, stateOf, sound}
-use Rattle.kdb.proofs.Lists.{bool, and-l, and-r, and-i, is-true, is-false, of-true, of-bit, self, to-bit, same-eq, same-refl, cond-case, every-each, each-every, each-two, sum-same, sum-none}
+use Rattle.kdb.proofs.Tests.{bool, and-l, and-r, and-i, is-true, is-false, of-true, of-bit, self, to-bit, cond-case}
+use Rattle.kdb.proofs.Lists.{same-eq, same-refl, every-each, each-every, each-two}
+use Rattle.kdb.proofs.Counts.{sum-same, sum-none}
 use Rattle.kdb.proofs.Tiling.{tiles-iff}
 use Rattle.kdb.proofs.Pages.{page-full, pool-ext, length-recs, recs-keys, points-fit}
 use Rattle.kdb.proofs.Views.{Seen, SeenF, own-seen, page-out, page-in, in-use, among, page-case, boxes-ents, ents-boxes, Under, whole-under, finite-whole, whole-finite, sum-records, recsAt}

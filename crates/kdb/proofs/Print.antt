@@ -18,7 +18,10 @@ use Rattle.kdb.specs.Header.{headerWords, printHeader, readHeader}
 use Rattle.kdb.specs.Pages.{blank, points, regions, regionsPer, pointsPer, printPage, readPage, page}
 use Rattle.kdb.specs.Pool.{domains, rootAt, levelsAt, countAt, pagesIn, view}
 use Rattle.kdb.specs.Print.{ents, pageOf, pageAt, headerOf, forest, printed, treeAt, stateOf}
-use Rattle.kdb.proofs.Lists.{bool, and-l, and-r, each-every, length-pad, is-true, is-false, and-i, Ranged, few}
+use Rattle.kdb.proofs.Tests.{bool, and-l, and-r, is-true, is-false, and-i}
+use Rattle.kdb.proofs.Lists.{each-every}
+use Rattle.kdb.proofs.Counts.{Ranged, few}
+use Rattle.kdb.proofs.Stores.{length-pad}
 use Rattle.kdb.proofs.Pages.{FitsPage, read-page, page-length, page-first, page-next, page-gather, length-pages}
 use Rattle.kdb.proofs.Views.{Seen, SeenF, seen-own, page-out, among, page-case, ents-boxes, Under, whole-under, under-key, under-length, tiles-under, levels-pages}
 use Rattle.kdb.proofs.Stands.{Stands}

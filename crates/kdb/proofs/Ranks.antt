@@ -13,7 +13,8 @@ use Rattle.kdb.specs.Lists.{bit, tally, many}
 use Rattle.kdb.specs.Box.{keyAt, lowerAt}
 use Rattle.kdb.specs.Cut.{insertSorted, sort, firstAbove, cutIn, cutOf, Cut, cut, choose}
 use Rattle.kdb.specs.Demands.{Ranks, CutsAt, Alike, CutFor, ByTheCuts}
-use Rattle.kdb.proofs.Lists.{bool, cases, to-bit, no-bit, getD-in, tally-imp}
+use Rattle.kdb.proofs.Tests.{bool, cases, to-bit, no-bit}
+use Rattle.kdb.proofs.Counts.{getD-in, tally-imp}
 use Rattle.kdb.proofs.Cut.{tally-insert, tally-sort, none-below, below-none, Least, head-least, first-is, cutIn-is, cutOf-none}
 
 -- in order: nothing behind a number is smaller

@@ -20,7 +20,9 @@ use Rattle.kdb.specs.Pool.{domains, rootAt, levelsAt, pagesIn, numbers, 
 use Rattle.kdb.specs.Print.{ents}
 use Rattle.kdb.specs.Walk.{Spot, spots, Tour, still, follow, through, readAt, goodPoints, goodRegions, tour, bounded, listWalk, End, rootless, bad, absent, here, Search, ends, after, spotOf, into, seek, findWalk}
 use Rattle.kdb.specs.Demands.{Shares, met}
-use Rattle.kdb.proofs.Lists.{and-i, and-l, and-r, cases, bool-eq, is-false, of-bit, to-bit, no-bit, self, only-append, every-append, every-imp, tally-append, many-append, same-eq, In, in-head, in-left, in-right, every-many, once-length, once-tally}
+use Rattle.kdb.proofs.Tests.{and-i, and-l, and-r, cases, bool-eq, is-false, of-bit, to-bit, no-bit, self}
+use Rattle.kdb.proofs.Lists.{every-append, same-eq}
+use Rattle.kdb.proofs.Counts.{only-append, every-imp, tally-append, many-append, In, in-head, in-left, in-right, every-many, once-length, once-tally}
 use Rattle.kdb.proofs.Box.{window-i, window-e, meets-of, at-meet}
 use Rattle.kdb.proofs.Tiling.{tiles-counted}
 use Rattle.kdb.proofs.Views.{Seen, SeenF, ents-boxes, among}

@@ -22,7 +22,9 @@ use Rattle.kdb.specs.Calls.{L, Call, format, check, place, remove, find,
 use Rattle.kdb.specs.History.{emptied, makes}
 use Rattle.kdb.specs.Bad.{listTrail, findStops, listStops, listRecords}
 use Rattle.kdb.specs.Demands.{keyed, goodPoint, givenTo, headed, fitting, endsIn, Headed, Taken, New, lastRecords, slotted, Demand1, SameSize, Leaves}
-use Rattle.kdb.proofs.Lists.{and-l, and-r, and-i, same-refl, In, is-true, of-true, tally-imp, length-upFrom}
+use Rattle.kdb.proofs.Tests.{and-l, and-r, and-i, is-true, of-true}
+use Rattle.kdb.proofs.Lists.{same-refl}
+use Rattle.kdb.proofs.Counts.{In, tally-imp, length-upFrom}
 use Rattle.kdb.proofs.Stands.{Stands}
 use Rattle.kdb.proofs.Pool.{length-iff, header-iff, sound-iff, Sound-stands}
 use Rattle.kdb.proofs.Walk.{walk-find}

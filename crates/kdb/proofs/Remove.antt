@@ -14,7 +14,9 @@ use Rattle.kdb.specs.Tiling.{holders}
 use Rattle.kdb.specs.Pages.{regionsPer, pointsPer}
 use Rattle.kdb.specs.Shape.{differ, RegionPage, Shaped, ShapedF, Numbered, WellFormed}
 use Rattle.kdb.specs.Steps.{size, without, remove, removeF, removed}
-use Rattle.kdb.proofs.Lists.{and-l, and-r, and-i, bool, by-case, to-bit, no-bit, bit-eq, bit-most, found, tally-append, same-eq, same-refl, In, every-in, tally-parts}
+use Rattle.kdb.proofs.Tests.{and-l, and-r, and-i, bool, by-case, to-bit, no-bit, bit-eq, bit-most}
+use Rattle.kdb.proofs.Lists.{same-eq, same-refl}
+use Rattle.kdb.proofs.Counts.{found, tally-append, In, every-in, tally-parts}
 use Rattle.kdb.proofs.Tiling.{tiles-counted, on}
 use Rattle.kdb.proofs.Grow.{at-levels}
 

@@ -17,7 +17,8 @@ use Rattle.kdb.specs.Cut.{Lies, left, right, across, lies, isLeft}
 use Rattle.kdb.specs.Tiling.{Tiles}
 use Rattle.kdb.specs.Shape.{differ, PointPage, RegionPage, Shaped, ShapedF}
 use Rattle.kdb.specs.Steps.{afterChosen, afterForced, Two, TwoF, deal, split, splitF}
-use Rattle.kdb.proofs.Lists.{and-l, and-r, and-i, bool, cases, to-bit, tally-append, length-only, tally-most, in-head, every-only, tally-only, tally-halves}
+use Rattle.kdb.proofs.Tests.{and-l, and-r, and-i, bool, cases, to-bit}
+use Rattle.kdb.proofs.Counts.{tally-append, length-only, tally-most, in-head, every-only, tally-only, tally-halves}
 use Rattle.kdb.proofs.Tiling.{low, low-in, solid-of, tiles-counted, lies-case, Inside, on, part, keep, parts, part-within, part-solid, tiles-part}
 use Rattle.kdb.proofs.Cut.{parts-length, entry-in}
 

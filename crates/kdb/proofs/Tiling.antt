@@ -12,7 +12,8 @@ use Rattle.kdb.specs.Lists.{bit, tally, every, anyOf, Each}
 use Rattle.kdb.specs.Box.{Side, Box, Key, within, solid, keyAt, lowerAt, upperAt, leftPart, rightPart}
 use Rattle.kdb.specs.Cut.{Lies, left, right, across, lies}
 use Rattle.kdb.specs.Tiling.{Disjoint, Apart, Tiles, holders, Counted, share, apart, fronted, minus, covers, tiles}
-use Rattle.kdb.proofs.Lists.{and-l, and-r, and-i, bool, bool-eq, of-bit, to-bit, no-bit, bit-most, and-false, and-swap, and-need, and-never, In, found, every-in, in-every, any-in, in-any, tally-and}
+use Rattle.kdb.proofs.Tests.{and-l, and-r, and-i, bool, bool-eq, of-bit, to-bit, no-bit, bit-most, and-false, and-swap, and-need, and-never}
+use Rattle.kdb.proofs.Counts.{In, found, every-in, in-every, any-in, in-any, tally-and}
 use Rattle.kdb.proofs.Box.{within-i, within-e}
 
 -- the lowest key of a region

@@ -15,7 +15,8 @@ use Rattle.kdb.specs.Tree.{Rec, Tree, leaf, node, Forest, fnil, fcons, b
 use Rattle.kdb.specs.Shape.{PointPage, RegionPage, Shaped, ShapedF}
 use Rattle.kdb.specs.Pages.{Page, blank, points, regions, recsIn, inUse}
 use Rattle.kdb.specs.Print.{ents, orPage, pageOf, pageOfF}
-use Rattle.kdb.proofs.Lists.{bool, and-l, and-r, and-i, or-l, or-r, self, to-bit, is-false, of-true, many-append, cond-case, some-many, sum-same, sum-add, sum-none, sum-hit, Ranged}
+use Rattle.kdb.proofs.Tests.{bool, and-l, and-r, and-i, or-l, or-r, self, to-bit, is-false, of-true, cond-case, some-many}
+use Rattle.kdb.proofs.Counts.{many-append, sum-same, sum-add, sum-none, sum-hit, Ranged}
 use Rattle.kdb.proofs.Box.{within-i, within-e, within-length}
 use Rattle.kdb.proofs.Tiling.{low, low-in}
 

@@ -18,7 +18,9 @@ use Rattle.kdb.proofs.Calls.{done}
 use Rattle.kdb.proofs.Pool.{header-iff}
 use Rattle.kdb.specs.Calls.{L, Call, find, list, Buffers, finding, listing, filled, lent, outcome, windowOf, begins, walkOf, Route, noWalk, toPoint, overWindow, row, readOn}
 use Rattle.kdb.specs.Demands.{walks}
-use Rattle.kdb.proofs.Lists.{and-l, and-r, and-i, cases, is-true, every-append, every-take, every-many, some-many, same-eq}
+use Rattle.kdb.proofs.Tests.{and-l, and-r, and-i, cases, is-true, some-many}
+use Rattle.kdb.proofs.Lists.{every-append, every-take, same-eq}
+use Rattle.kdb.proofs.Counts.{every-many}
 
 -- at a page of the pool and elsewhere; at a good page and at a bad one
 at-page : {A : Type 0} (P : A → Type 0) (page good : Bool) (x y z : A) → (T page → T good → P x) → (T page → P y) → P z → P (cond page (cond good x y) z)

@@ -15,7 +15,8 @@ use Rattle.kdb.specs.Tree.{State}
 use Rattle.kdb.specs.Walk.{listWalk, findWalk}
 use Rattle.kdb.specs.Calls.{finite, ordered, windowOf}
 use Rattle.kdb.specs.Demands.{goodWindow, goodPoint}
-use Rattle.kdb.proofs.Lists.{and-i, and-l, and-r, every-take, every-append, of-true}
+use Rattle.kdb.proofs.Tests.{and-i, and-l, and-r, of-true}
+use Rattle.kdb.proofs.Lists.{every-take, every-append}
 use Rattle.kdb.proofs.Views.{finite-whole}
 use Rattle.kdb.proofs.Stands.{Stands}
 use Rattle.kdb.proofs.Reading.{one-point, list-point, find-path}

@@ -15,7 +15,8 @@ use Rattle.kdb.specs.Tree.{Rec}
 use Rattle.kdb.specs.Pages.{Ent, Page, blank, points, regions, regionsPer, pointsPer, recsIn, entsIn, isPoints, isRegions, readRecs, readEnts, page}
 use Rattle.kdb.specs.Pool.{domains, view, isPage}
 use Rattle.kdb.specs.Walk.{goodPoints, goodRegions}
-use Rattle.kdb.proofs.Lists.{and-t, drop-take}
+use Rattle.kdb.proofs.Tests.{and-t}
+use Rattle.kdb.proofs.Lists.{drop-take}
 use Rattle.kdb.proofs.Pages.{recs-take, ents-take, length-recs, length-ents, word-at}
 
 -- the record and the entry at word a of a pool

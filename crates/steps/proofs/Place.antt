@@ -19,7 +19,8 @@ use Rattle.kdb.specs.Pool.{domains, pagesIn}
 use Rattle.kdb.specs.Shape.{WellFormed}
 use Rattle.kdb.specs.Print.{headerOf, printed}
 use Rattle.kdb.specs.Header.{printHeader, rooted}
-use Rattle.kdb.proofs.Lists.{none-of, many-append}
+use Rattle.kdb.proofs.Tests.{none-of}
+use Rattle.kdb.proofs.Counts.{many-append}
 use Rattle.kdb.proofs.Tiling.{part-length}
 use Rattle.kdb.proofs.Pages.{rec-length, ent-length, points-fit, regions-fit}
 use Rattle.kdb.proofs.Views.{whole-under, whole-length}
