@@ -5,13 +5,13 @@ use mathlib.Core.List.{List, [], _∷_, _++_, map}
 use mathlib.Core.Logic.{_↔_}
 use mathlib.Core.Option.{none, some}
 use mathlib.Core.Path.{_≡_, refl, sym, ap, ap₂, _∙_, subst}
-use Prim.Native.Nat.{ℕ, zero, suc, _+_, _-_, _*_, _%_, _<_, _≤_}
+use Prim.Native.Nat.{ℕ, zero, suc, _+_, _-_, _%_, _<_, _≤_}
 use native.Mathlib.Omega.{arith}
-use native.Mathlib.Nat.{mul-zero, mul-mod-right, div-add-mod}
+use native.Mathlib.Nat.{mul-mod-right, div-add-mod}
 use lib.Dec.{T, T-not, leb, ltb, eqb, leb→le, ltb→lt, le→leb, lt→ltb, eqb→eq}
 use lib.ListN.{length, getD, drop, length-drop, length-map}
 use borrow.Author.Tests.{eq-eqb, ne-eqb}
-use Rattle.kdb.specs.Lists.{bit, every, Each, gather, sum, many, pad, same}
+use Rattle.kdb.specs.Lists.{bit, every, Each, gather, sum, many, same}
 use Rattle.kdb.specs.Box.{∞, Box, whole, within, solid}
 use Rattle.kdb.specs.Tiling.{Together, Apart}
 use Rattle.kdb.specs.Tree.{Rec, Tree, leaf, node, Forest, fnil, fcons, State, root, boxes, levels, levelsF, pages, pagesF, records, pagesOf, rootOf, levelsOf, recordsOf}

@@ -1,22 +1,22 @@
 -- A well-formed state printed and read back. `stands`: it stands in the words printed; `read-state`: those words say it again;
 -- `printed-injective`: no two such states are printed alike.
 use mathlib.Core.Bool.{false, _&&_, cond}
-use mathlib.Core.List.{List, [], _∷_}
+use mathlib.Core.List.{List}
 use mathlib.Core.Option.{none, some}
 use mathlib.Core.Path.{_≡_, refl, sym, ap, ap₂, _∙_, subst}
 use Prim.Native.Nat.{ℕ, zero, suc, _+_, _-_, _*_, _/_, _<_, _≤_}
 use native.Mathlib.Omega.{arith}
 use native.Mathlib.Nat.{mul-suc, mul-div-right}
 use lib.Dec.{T, T-not, leb, ltb, eqb, leb→le, ltb→lt, le→leb, lt→ltb}
-use lib.ListN.{length, getD, length-append}
+use lib.ListN.{length, length-append}
 use borrow.Author.Tests.{ne-eqb}
 use Rattle.kdb.specs.Lists.{Each, every, gather, upFrom}
 use Rattle.kdb.specs.Box.{Box, whole, within, solid}
-use Rattle.kdb.specs.Tree.{Rec, Tree, leaf, node, Forest, fnil, fcons, State, root, boxes, levels, pages, pagesOf, recordsOf}
+use Rattle.kdb.specs.Tree.{Rec, Tree, leaf, node, Forest, fnil, fcons, State, root, boxes, levels, pages, pagesOf}
 use Rattle.kdb.specs.Shape.{PointPage, RegionPage, Shaped, ShapedF, Numbered, WellFormed}
 use Rattle.kdb.specs.Header.{headerWords, printHeader, readHeader}
 use Rattle.kdb.specs.Pages.{blank, points, regions, regionsPer, pointsPer, printPage, readPage, page}
-use Rattle.kdb.specs.Pool.{domains, rootAt, levelsAt, countAt, pagesIn, view}
+use Rattle.kdb.specs.Pool.{domains, rootAt, levelsAt, pagesIn, view}
 use Rattle.kdb.specs.Print.{ents, pageOf, pageAt, headerOf, forest, printed, treeAt, stateOf}
 use Rattle.kdb.proofs.Tests.{bool, and-l, and-r, is-true, is-false, and-i}
 use Rattle.kdb.proofs.Lists.{each-every}

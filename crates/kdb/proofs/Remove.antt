@@ -7,7 +7,7 @@ use Prim.Native.Nat.{ℕ, zero, suc, _+_, _-_, _≤_}
 use native.Mathlib.Omega.{arith}
 use lib.Dec.{T, leb, eqb, leb→le, nleb→lt, T-not, eqb→eq}
 use lib.ListN.{length}
-use Rattle.kdb.specs.Lists.{bit, only, tally, every, same}
+use Rattle.kdb.specs.Lists.{bit, tally, every, same}
 use Rattle.kdb.specs.Box.{Box, Key, whole, within}
 use Rattle.kdb.specs.Tree.{Rec, Tree, leaf, node, Forest, fnil, fcons, State, boxes, levels, pages, pagesF, records, recordsF, pagesOf, recordsOf}
 use Rattle.kdb.specs.Tiling.{holders}
@@ -17,7 +17,7 @@ use Rattle.kdb.specs.Steps.{size, without, remove, removeF, removed}
 use Rattle.kdb.proofs.Tests.{and-l, and-r, and-i, bool, by-case, to-bit, no-bit, bit-eq, bit-most}
 use Rattle.kdb.proofs.Lists.{same-eq, same-refl}
 use Rattle.kdb.proofs.Counts.{found, tally-append, In, every-in, tally-parts}
-use Rattle.kdb.proofs.Tiling.{tiles-counted, on}
+use Rattle.kdb.proofs.Tiling.{tiles-counted}
 use Rattle.kdb.proofs.Grow.{at-levels}
 
 -- a key stands at most once, and only where the tree's own region holds it

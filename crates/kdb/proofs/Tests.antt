@@ -4,7 +4,7 @@ use mathlib.Core.Path.{_≡_, refl, ap, subst}
 use Prim.Native.Nat.{ℕ, zero, suc, _+_, _-_, _≤_}
 use native.Mathlib.Omega.{arith}
 use lib.Dec.{T, eqb, eqb-refl}
-use Rattle.kdb.specs.Lists.{bit, same}
+use Rattle.kdb.specs.Lists.{bit}
 
 pub and-l : (a b : Bool) → T (a && b) → T a
 and-l true b t = tt

@@ -7,7 +7,7 @@ use mathlib.Core.Path.{_≡_, refl, sym, ap, ap₂, _∙_, subst}
 use Prim.Native.Nat.{ℕ, zero, suc, _+_, _*_, _-_, _≤_}
 use native.Mathlib.Omega.{arith}
 use native.Mathlib.Numerals.{add-one}
-use native.Mathlib.Nat.{mul-zero, zero-add}
+use native.Mathlib.Nat.{zero-add}
 use lib.Dec.{eqb, eqb→eq}
 use lib.ListN.{length, take, drop, getD, set, replicate, length-append, length-set, length-take, length-drop}
 use lib.Seq.{sets, take-at, drop-at, drop-drop, drop-cons, drop-set-lt, drop-append-add}

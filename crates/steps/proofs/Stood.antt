@@ -1,7 +1,7 @@
 -- From a printed state to what the steps need of its words, and back: its tree is held, its free pages are those that it does not use, and
 -- words that hold a well-formed tree with all else blank are its printed form.
 use mathlib.Core.Bool.{Bool, false}
-use mathlib.Core.List.{List, [], _∷_}
+use mathlib.Core.List.{List, []}
 use mathlib.Core.Option.{none, some}
 use mathlib.Core.Path.{_≡_, refl, sym, ap, ap₂, _∙_, subst}
 use Prim.Native.Nat.{ℕ, zero, suc, _+_, _*_, _-_, _<_, _≤_}
@@ -13,7 +13,7 @@ use lib.Seq.{sets}
 use borrow.Author.Tests.{eq-eqb, ne-eqb}
 use Rattle.kdb.specs.Lists.{every, many, Each, pad}
 use Rattle.kdb.specs.Box.{Box, within, solid}
-use Rattle.kdb.specs.Tree.{Tree, leaf, node, Forest, fnil, fcons, State, root, boxes, levels, pages, pagesF, pagesOf, recordsOf}
+use Rattle.kdb.specs.Tree.{Tree, leaf, node, Forest, fnil, fcons, State, boxes, pages, pagesF, pagesOf}
 use Rattle.kdb.specs.Steps.{freeOf}
 use Rattle.kdb.specs.Header.{Header, headerWords, printHeader, readHeader, rooted}
 use Rattle.kdb.specs.Pages.{Page, blank, points, regions, inUse, printPage, page}
