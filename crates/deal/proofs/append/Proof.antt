@@ -7,11 +7,6 @@ use borrow.Author.Needs.{needs}
 use native.Mathlib.Omega.{arith}
 use Rattle.deal.proofs.append.Statement.{statement}
 use Rattle.deal.proofs.append.Tie as tie
-use Rattle.deal.proofs.append.Reads as reads
-use Rattle.deal.proofs.append.Lts as lts
-use Rattle.deal.proofs.copy_part.Reads as copy-part-reads
-use Rattle.words.proofs.put.Reads as put-reads
-use Rattle.words.proofs.word.Reads as word-reads
 
 word-requires : tie.Need-word-requires
 word-requires c κs = search needs
