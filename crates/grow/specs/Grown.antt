@@ -1,5 +1,5 @@
 -- How a page took an entry, and the two ways in which a page takes one more entry, in the terms of the machine forms.
-use mathlib.Core.Bool.{true, false, cond}
+use mathlib.Core.Bool.{cond}
 use mathlib.Core.List.{List, map}
 use Prim.Native.Nat.{ℕ, _+_, _*_, _<_}
 use lib.Dec.{ltb, eqb}

@@ -9,7 +9,7 @@ use kdb::Form;
 use words::get;
 use words::word;
 ghost use mathlib.Core.Path.{_≡_};
-ghost use Prim.Native.Nat.{_+_, _*_, _-_, _≤_, _<_, _^_};
+ghost use Prim.Native.Nat.{_<_, _^_};
 ghost use Rattle.kdb.specs.Steps.{afterForced};
 ghost use Rattle.kdb.specs.Calls.{L};
 ghost use Rattle.words.specs.Words.{wordAt, Formed};

@@ -32,10 +32,6 @@ fit w n k g p t e =
     let h = header-iff L w .0 (of-true (goodHeader L w) t) in
     record { formed = record { words = rw p (g .long); least = rw p (g .least); most = rw p (g .most); some = rw e (h .least); few = rw e (h .most) }; says = sym e }
 
--- a store keeps the length, and so the form
-pub formed-kept : {w v : List ℕ} {f : Form} → length v ≡ length w → Formed w f → Formed v f
-formed-kept e g = record { words = e ∙ g .words; least = g .least; most = g .most; some = g .some; few = g .few }
-
 -- what a count of pages tells
 pub long : (w : List ℕ) → goodLength L w ≡ true → GoodLength L w
 long w t = length-iff L w .0 (of-true (goodLength L w) t)

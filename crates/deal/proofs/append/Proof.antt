@@ -1,8 +1,7 @@
 -- `deal::append` meets its contract: the entry of wd words at word a of src goes behind the last entry of page c, unless the page ends
 -- there.
-use Rattle.deal.proofs.Laws.{fewer}
 use mathlib.Core.Path.{_∙_}
-use Rattle.deal.proofs.Laws.{append-room, append-full, small, near}
+use Rattle.deal.proofs.Laws.{small, fewer, near, append-room, append-full}
 use borrow.Author.Needs.{needs}
 use native.Mathlib.Omega.{arith}
 use Rattle.deal.proofs.append.Statement.{statement}

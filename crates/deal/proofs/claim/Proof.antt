@@ -5,10 +5,6 @@ use borrow.Author.Needs.{needs}
 use native.Mathlib.Omega.{arith}
 use Rattle.deal.proofs.claim.Statement.{statement}
 use Rattle.deal.proofs.claim.Tie as tie
-use Rattle.deal.proofs.claim.Reads as reads
-use Rattle.deal.proofs.claim.Lts as lts
-use Rattle.deal.proofs.fresh.Reads as fresh-reads
-use Rattle.words.proofs.lowest_free.Reads as lowest-free-reads
 
 lowest-free-requires : tie.Need-lowest-free-requires
 lowest-free-requires c κs = search needs

@@ -1,11 +1,10 @@
 -- `grow::grow` meets its contract: page j, `level` levels above the point pages, takes the point with its location.
-use Prim.Native.Nat.{_<_, _-_, _+_}
+use Prim.Native.Nat.{ℕ, _<_, _-_}
 use mathlib.Core.Path.{_∙_}
 use Rattle.kdb.specs.Pages.{regionsPer, pointsPer}
 use Rattle.grow.proofs.Laws as laws
 use borrow.Author.Needs.{needs}
 use native.Mathlib.Omega.{arith}
-use Prim.Native.Nat.{ℕ, _<_}
 use borrow.Fn.Kinds.{In}
 use borrow.Fn.PlainCycle.{Measures, is, falls, and}
 use Rattle.grow.proofs.grow.Reads as grow

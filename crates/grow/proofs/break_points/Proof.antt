@@ -7,10 +7,6 @@ use borrow.Author.Needs.{needs}
 use native.Mathlib.Omega.{arith}
 use Rattle.grow.proofs.break_points.Statement.{statement}
 use Rattle.grow.proofs.break_points.Tie as tie
-use Rattle.grow.proofs.break_points.Reads as reads
-use Rattle.grow.proofs.break_points.Lts as lts
-use Rattle.cut.proofs.choose.Reads as choose-reads
-use Rattle.deal.proofs.part_points.Reads as part-points-reads
 
 add-choose : tie.Need-add-choose
 add-choose c = search needs

@@ -6,10 +6,6 @@ use borrow.Author.Needs.{needs}
 use native.Mathlib.Omega.{arith}
 use Rattle.grow.proofs.break_regions.Statement.{statement}
 use Rattle.grow.proofs.break_regions.Tie as tie
-use Rattle.grow.proofs.break_regions.Reads as reads
-use Rattle.grow.proofs.break_regions.Lts as lts
-use Rattle.cut.proofs.choose.Reads as choose-reads
-use Rattle.split.proofs.part_regions.Reads as part-regions-reads
 
 mul-choose : tie.Need-mul-choose
 mul-choose c = search needs

@@ -1,8 +1,7 @@
 -- `grow::grow_points` meets its contract: point page j takes the point.
 use Prim.Native.Nat.{_+_}
-use lib.ListN.{take}
+use lib.ListN.{take, length-take}
 use mathlib.Core.Path.{sym, ap, _∙_}
-use lib.ListN.{length-take}
 use lib.Seq.{length-take-le}
 use Rattle.steps.specs.Machine.{word}
 use Rattle.grow.specs.Grown.{settlePoints}
@@ -11,11 +10,6 @@ use borrow.Author.Needs.{needs}
 use native.Mathlib.Omega.{arith}
 use Rattle.grow.proofs.grow_points.Statement.{statement}
 use Rattle.grow.proofs.grow_points.Tie as tie
-use Rattle.grow.proofs.grow_points.Reads as reads
-use Rattle.grow.proofs.grow_points.Lts as lts
-use Rattle.grow.proofs.settle_points.Reads as settle-points-reads
-use Rattle.grow.proofs.write_record.Reads as write-record-reads
-use Rattle.words.proofs.word.Reads as word-reads
 
 word-requires : tie.Need-word-requires
 word-requires c κs = search needs

@@ -9,10 +9,6 @@ use borrow.Author.Needs.{needs}
 use native.Mathlib.Omega.{arith}
 use Rattle.grow.proofs.seek.Statement.{statement}
 use Rattle.grow.proofs.seek.Tie as tie
-use Rattle.grow.proofs.seek.Reads as reads
-use Rattle.grow.proofs.seek.Lts as lts
-use Rattle.grow.proofs.holds.Reads as holds-reads
-use Rattle.words.proofs.word.Reads as word-reads
 
 abbrev Inv-loop : tie.InvT-loop
 Inv-loop pool f point j m a₀ i₀ a i = (i ≤ m) × (m < 2 ^ 32) × (a ≤ 32 * j + 4 + 9 * i) × (seekIn (f .domains) point (m - i) pool a ≡ seekIn (f .domains) point (word 32 pool j 1) pool (32 * j + 4))

@@ -6,20 +6,13 @@ use Rattle.steps.specs.Grow.{breakPoints}
 use Rattle.kdb.specs.Pages.{regionsPer, pointsPer}
 use Rattle.kdb.specs.Cut.{choose}
 use Rattle.cut.specs.Keys.{keysIn}
-use Rattle.grow.proofs.Laws.{few-points}
+use Rattle.grow.proofs.Laws.{few-points, points-room, points-full, points-over, over-words}
 use mathlib.Core.Path.{sym, ap, _∙_}
 use lib.Seq.{length-take-le}
-use Rattle.grow.proofs.Laws.{points-room, points-full, points-over, over-words}
 use borrow.Author.Needs.{needs}
 use native.Mathlib.Omega.{arith}
 use Rattle.grow.proofs.settle_points.Statement.{statement}
 use Rattle.grow.proofs.settle_points.Tie as tie
-use Rattle.grow.proofs.settle_points.Reads as reads
-use Rattle.grow.proofs.settle_points.Lts as lts
-use Rattle.grow.proofs.break_points.Reads as break-points-reads
-use Rattle.grow.proofs.copy_overfull.Reads as copy-overfull-reads
-use Rattle.deal.proofs.append.Reads as append-reads
-use Rattle.words.proofs.points_per.Reads as points-per-reads
 
 points-per-requires : tie.Need-points-per-requires
 points-per-requires c κs = search needs

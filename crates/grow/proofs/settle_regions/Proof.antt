@@ -5,20 +5,13 @@ use Rattle.steps.specs.Grow.{breakRegions}
 use Rattle.kdb.specs.Pages.{regionsPer, pointsPer}
 use Rattle.kdb.specs.Cut.{choose}
 use Rattle.cut.specs.Keys.{keysIn}
-use Rattle.grow.proofs.Laws.{few-regions}
+use Rattle.grow.proofs.Laws.{few-regions, regions-room, regions-full, regions-over, over-words}
 use mathlib.Core.Path.{sym, ap, _∙_}
 use lib.Seq.{length-take-le}
-use Rattle.grow.proofs.Laws.{regions-room, regions-full, regions-over, over-words}
 use borrow.Author.Needs.{needs}
 use native.Mathlib.Omega.{arith}
 use Rattle.grow.proofs.settle_regions.Statement.{statement}
 use Rattle.grow.proofs.settle_regions.Tie as tie
-use Rattle.grow.proofs.settle_regions.Reads as reads
-use Rattle.grow.proofs.settle_regions.Lts as lts
-use Rattle.grow.proofs.break_regions.Reads as break-regions-reads
-use Rattle.grow.proofs.copy_overfull.Reads as copy-overfull-reads
-use Rattle.deal.proofs.append.Reads as append-reads
-use Rattle.words.proofs.regions_per.Reads as regions-per-reads
 
 regions-per-requires : tie.Need-regions-per-requires
 regions-per-requires c κs = search needs

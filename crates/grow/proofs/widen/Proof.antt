@@ -12,13 +12,6 @@ use borrow.Author.Needs.{needs}
 use native.Mathlib.Omega.{arith}
 use Rattle.grow.proofs.widen.Statement.{statement}
 use Rattle.grow.proofs.widen.Tie as tie
-use Rattle.grow.proofs.widen.Reads as reads
-use Rattle.grow.proofs.widen.Lts as lts
-use Rattle.grow.proofs.settle_regions.Reads as settle-regions-reads
-use Rattle.deal.proofs.half.Reads as half-reads
-use Rattle.deal.proofs.has.Reads as has-reads
-use Rattle.words.proofs.put.Reads as put-reads
-use Rattle.words.proofs.word.Reads as word-reads
 
 word-requires : tie.Need-word-requires
 word-requires c κs = search needs

@@ -1,5 +1,5 @@
 -- `split::entry_pass` and `split::split_page`, which call each other, meet their contracts.
-use Prim.Native.Nat.{_≤_, _<_, _-_, _+_, _*_}
+use Prim.Native.Nat.{ℕ, _≤_, _<_, _-_, _+_, _*_}
 use native.Mathlib.Nat.{sub-zero}
 use mathlib.Core.Path.{_≡_, refl, sym, _∙_}
 use lib.ListN.{length}
@@ -7,7 +7,6 @@ use Rattle.steps.specs.Split.{entriesIn, splitIn}
 use Rattle.split.proofs.Laws as laws
 use borrow.Author.Needs.{needs}
 use native.Mathlib.Omega.{arith}
-use Prim.Native.Nat.{ℕ, _<_}
 use borrow.Fn.Kinds.{In}
 use borrow.Fn.PlainCycle.{Measures, is, falls, and}
 use Rattle.split.proofs.entry_pass.Reads as entry-pass
