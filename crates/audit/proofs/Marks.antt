@@ -9,7 +9,7 @@ use lib.Dec.{T, eqb, eqb→eq, eqb-refl, T-not}
 use lib.ListN.{length, getD, set, length-set}
 use lib.Seq.{getD-set-same, getD-set-other}
 use Rattle.kdb.specs.Lists.{bit, many}
-use Rattle.kdb.proofs.Lists.{bool, self, to-bit, no-bit}
+use Rattle.kdb.proofs.Tests.{bool, self, to-bit, no-bit}
 
 -- the pages xs have numbers of 1 to n − 1, none was marked in m, none comes twice; m′ is m with all of them marked
 pub data Marks (n : ℕ) : List ℕ → List ℕ → List ℕ → Type 0 where

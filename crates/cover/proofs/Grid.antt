@@ -11,7 +11,7 @@ use borrow.Author.Tests.{lt-ltb, le-ltb, le-leb, lt-leb}
 use Rattle.kdb.specs.Lists.{bit, Each}
 use Rattle.kdb.specs.Box.{Box, Key, within}
 use Rattle.kdb.specs.Tiling.{holders}
-use Rattle.kdb.proofs.Lists.{bool, no-bit, and-false}
+use Rattle.kdb.proofs.Tests.{bool, no-bit, and-false}
 use Rattle.kdb.proofs.Box.{within-e}
 use Rattle.cover.specs.Volume.{volumeOf, volumesOf}
 

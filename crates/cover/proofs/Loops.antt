@@ -9,7 +9,7 @@ use native.Mathlib.Numerals.{add-one}
 use lib.Dec.{T, leb, ltb, leb→le, nleb→lt, ltb→lt, nltb→le}
 use lib.ListN.{length, getD}
 use Rattle.kdb.specs.Box.{solid}
-use Rattle.kdb.proofs.Lists.{bool, and-l, and-r}
+use Rattle.kdb.proofs.Tests.{bool, and-l, and-r}
 use Rattle.words.specs.Loops.{allBy}
 use Rattle.words.specs.Words.{RegionIn}
 use Rattle.cover.specs.Boxes.{sidesBy, sideAt, boxAt, Row}

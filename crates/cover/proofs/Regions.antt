@@ -11,7 +11,7 @@ use borrow.Author.Tests.{eq-eqb}
 use Rattle.kdb.specs.Lists.{every}
 use Rattle.kdb.specs.Box.{solid}
 use Rattle.kdb.specs.Tiling.{tiles}
-use Rattle.kdb.proofs.Lists.{and-l, and-r, and-i, bool-eq, of-true}
+use Rattle.kdb.proofs.Tests.{and-l, and-r, and-i, bool-eq, of-true}
 use Rattle.words.specs.Words.{RegionIn}
 use Rattle.cover.specs.Boxes.{boxAt, boxesAt, fitting, regionIn, regionsIn, Row}
 use Rattle.cover.specs.Volume.{volumeOf, volumesOf, value}

@@ -9,7 +9,7 @@ use lib.ListN.{length, take, drop, getD}
 use lib.Seq.{drop-drop}
 use Rattle.kdb.specs.Box.{Side, Box, sides}
 use Rattle.kdb.specs.Pages.{readEnts}
-use Rattle.kdb.proofs.Lists.{and-true, and-assoc}
+use Rattle.kdb.proofs.Tests.{and-true, and-assoc}
 use Rattle.words.proofs.Loops.{keys-by}
 use Rattle.words.specs.Loops.{allBy, keysBy}
 use Rattle.cover.specs.Boxes.{sidesBy, boxAt, boxesAt, regionIn, regionsIn, sideBySide, insideOf, overlap, clearOf, fitting}

@@ -10,7 +10,7 @@ use borrow.Author.Tests.{eq-eqb}
 use Rattle.kdb.specs.Lists.{bit, every, Each}
 use Rattle.kdb.specs.Box.{Side, Box, Key, within, solid}
 use Rattle.kdb.specs.Tiling.{holders, share, apart, covers, tiles}
-use Rattle.kdb.proofs.Lists.{and-l, and-r, and-i, bool, bool-eq, to-bit, of-bit, of-true, no-bit}
+use Rattle.kdb.proofs.Tests.{and-l, and-r, and-i, bool, bool-eq, to-bit, of-bit, of-true, no-bit}
 use Rattle.kdb.proofs.Box.{within-i, within-e}
 use Rattle.kdb.proofs.Tiling.{low, low-in, covers-says, says-covers, tiles-iff, tiles-counted, counted-tiles, solid-of, share-of}
 use Rattle.cover.specs.Boxes.{insideSide, insideOf, overlapSide, overlap, clearOf, fitting}

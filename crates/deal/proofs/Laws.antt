@@ -14,7 +14,7 @@ use Rattle.kdb.specs.Lists.{only, upFrom}
 use Rattle.kdb.specs.Calls.{L}
 use Rattle.kdb.specs.Pages.{page}
 use Rattle.words.specs.Words.{wordAt, firstOr, lowestFree}
-use Rattle.kdb.proofs.Lists.{take-set, take-sets}
+use Rattle.kdb.proofs.Stores.{take-set, take-sets}
 use Rattle.steps.specs.Machine.{Claimed, word, freshIn, appendIn}
 use Rattle.steps.specs.Claim.{lowest, claimIn}
 use Rattle.steps.specs.Split.{pointsIn, partPoints}

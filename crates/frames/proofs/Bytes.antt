@@ -10,7 +10,7 @@ use lib.ListN.{length, getD, take, drop, set, length-drop}
 use lib.Seq.{sets, take-add, take-take, take-suc, take-suc-set, length-take-le}
 use borrow.Author.Tests.{lt-ltb, le-ltb, ne-eqb}
 use Rattle.kdb.specs.Frames.{Reply}
-use Rattle.kdb.proofs.Lists.{bool}
+use Rattle.kdb.proofs.Tests.{bool}
 use Rattle.replies.specs.Reply.{workAfter, Sized, Replied}
 use Rattle.frames.specs.Stream.{Stage, longer, closed, asked, next, said, after, wrote}
 use Rattle.text.specs.Text.{counted, Written}

@@ -10,7 +10,8 @@ use lib.ListN.{length, length-append}
 use borrow.Author.Tests.{le-leb, lt-leb}
 use Rattle.kdb.specs.Lists.{gather}
 use Rattle.kdb.specs.Frames.{Reply, reply, lines, session, output}
-use Rattle.kdb.proofs.Lists.{bool, is-true, is-false, every-append, and-i}
+use Rattle.kdb.proofs.Tests.{bool, is-true, is-false, and-i}
+use Rattle.kdb.proofs.Lists.{every-append}
 use Rattle.kdb.proofs.Frames.{reply-long, unbroken, lines-break, lines-last}
 use Rattle.frames.specs.Stream.{Stage, start, longer, closed, next, said, after, wrote, fed}
 

@@ -17,7 +17,7 @@ use Rattle.kdb.specs.Print.{sound}
 use Rattle.kdb.specs.declared.Refusal.{Refusal}
 use Rattle.kdb.specs.declared.Refusal.the-variants as why
 use Rattle.kdb.specs.Calls.{L, format, place, remove, alone, working, Test, _or_, allHold, headTests, gives, refuses, goodDomains, formatted, present, removing, begins, core, outcome, Promise}
-use Rattle.kdb.proofs.Lists.{and-t, and-l, and-r, and-false, of-true, cases}
+use Rattle.kdb.proofs.Tests.{and-t, and-l, and-r, and-false, of-true, cases}
 use Rattle.kdb.proofs.Calls.{goes-on, judge-past}
 use Rattle.kdb.proofs.Pool.{sound-iff, header-iff}
 use Rattle.kdb.proofs.Walk.{Named, Ends, find-named}

@@ -11,7 +11,7 @@ use Rattle.kdb.specs.declared.Refusal.{Refusal}
 use Rattle.kdb.specs.declared.Refusal.the-variants.{PoolLength, BufferLength, InfiniteKey, Unsound}
 use Rattle.kdb.specs.Calls.{L, Call, Buffers, Outcome, refuses, Test, _or_, judge, allHold, finite, headTests, lent, tests, core, outcome, Promise}
 use Rattle.kdb.proofs.Calls.{judge-past}
-use Rattle.kdb.proofs.Lists.{and-l, and-r, and-i, is-true, of-true}
+use Rattle.kdb.proofs.Tests.{and-l, and-r, and-i, is-true, of-true}
 use Rattle.words.specs.Words.{Paged, Fit}
 use Rattle.words.proofs.Laws.{fit}
 use Rattle.opening.specs.declared.Opened.{Opened}

@@ -11,7 +11,8 @@ use lib.ListN.{length, getD, set, length-set}
 use lib.Seq.{getD-set-same, getD-set-other}
 use Rattle.kdb.specs.Lists.{Each, same}
 use Rattle.kdb.specs.Box.{Key}
-use Rattle.kdb.proofs.Lists.{and-l, and-r, and-i, bool, is-true, is-false, of-true, same-eq}
+use Rattle.kdb.proofs.Tests.{and-l, and-r, and-i, bool, is-true, is-false, of-true}
+use Rattle.kdb.proofs.Lists.{same-eq}
 use Rattle.words.specs.Loops.{keysBy}
 use Rattle.cover.specs.Boxes.{Row}
 use Rattle.pages.specs.Tests.{keyIn, keysIn, alone, distinctOf}

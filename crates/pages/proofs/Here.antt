@@ -9,7 +9,8 @@ use Rattle.kdb.specs.Box.{Box}
 use Rattle.kdb.specs.Pages.{regionsPer, pointsPer, domain, recsIn, boxesIn, isPoints, isRegions, printPage, page}
 use Rattle.kdb.specs.Shape.{PointPage, RegionPage}
 use Rattle.kdb.specs.Pool.{domains, view}
-use Rattle.kdb.proofs.Lists.{and-l, and-r, and-i, same-eq, same-refl}
+use Rattle.kdb.proofs.Tests.{and-l, and-r, and-i}
+use Rattle.kdb.proofs.Lists.{same-eq, same-refl}
 use Rattle.kdb.proofs.Pool.{point-says, says-point, region-says, says-region}
 use Rattle.pages.specs.Kinds.{laidOut, soundPoints, soundRegions}
 

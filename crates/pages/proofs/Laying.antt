@@ -13,7 +13,7 @@ use lib.Seq.{take-suc, take-add, getD-drop, drop-at, length-take-le}
 use Rattle.kdb.specs.Lists.{every, gather, pad}
 use Rattle.kdb.specs.Box.{sides}
 use Rattle.kdb.specs.Pages.{wordsR, wordsE, layout, readRecs, readEnts}
-use Rattle.kdb.proofs.Lists.{pad-tail, zeros-pad, pad-zeros}
+use Rattle.kdb.proofs.Stores.{pad-tail, zeros-pad, pad-zeros}
 
 -- entries read print as the words that they were read from
 pub recs-words : (k n : ℕ) (vs : List ℕ) → n * (k + 1) ≤ length vs → gather wordsR (readRecs k n vs) ≡ take (n * (k + 1)) vs

@@ -18,7 +18,7 @@ use Rattle.kdb.specs.Pages.{Page, points, regions, regionsPer, pointsPer, domai
 use Rattle.kdb.specs.Shape.{differ}
 use Rattle.kdb.specs.Pool.{domains, view, isPage}
 use Rattle.kdb.specs.Calls.{L}
-use Rattle.kdb.proofs.Lists.{and-l, and-r, and-i, bool-eq, of-true}
+use Rattle.kdb.proofs.Tests.{and-l, and-r, and-i, bool-eq, of-true}
 use Rattle.kdb.proofs.Tiling.{tiles-iff}
 use Rattle.kdb.proofs.Pages.{page-full, points-fit, regions-fit}
 use Rattle.kdb.proofs.Pages.{recs-take, ents-take, length-recs, length-ents, word-at}

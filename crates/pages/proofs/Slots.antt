@@ -9,7 +9,7 @@ use lib.ListN.{getD}
 use borrow.Author.Tests.{lt-ltb, le-ltb, le-leb, lt-leb}
 use Rattle.kdb.specs.Lists.{every, same}
 use Rattle.kdb.specs.Box.{Side, Key, within}
-use Rattle.kdb.proofs.Lists.{and-true, and-assoc, and-false}
+use Rattle.kdb.proofs.Tests.{and-true, and-assoc, and-false}
 use Rattle.words.specs.Loops.{allBy, keysBy}
 use Rattle.cover.specs.Boxes.{sidesBy, sideAt, boxAt, Row}
 use Rattle.cover.proofs.Loops.{row-first, row-next}

@@ -13,7 +13,7 @@ use Rattle.kdb.specs.Walk.{Tour, listWalk, End, rootless, bad, absent, here, Se
 use Rattle.kdb.specs.declared.Refusal.{Refusal}
 use Rattle.kdb.specs.declared.Refusal.the-variants.{Unsound, Absent, WindowOrder}
 use Rattle.kdb.specs.Calls.{L, find, list, alone, answering, gives, refuses, _or_, judge, allHold, headTests, windowOf, ordered, finding, listing, outcome, Promise}
-use Rattle.kdb.proofs.Lists.{sets-fill}
+use Rattle.kdb.proofs.Stores.{sets-fill}
 use Rattle.kdb.proofs.Calls.{goes-on, judge-past}
 use Rattle.words.proofs.Laws.{cleared}
 use Rattle.walk.specs.declared.Sought.{Sought}

@@ -14,7 +14,7 @@ use Rattle.kdb.specs.Walk.{End, rootless, bad, absent, here, findWalk, listWalk
 use Rattle.kdb.specs.declared.Refusal.the-variants.{PoolLength, Domains}
 use Rattle.kdb.specs.Calls.{alone, working, answering, L, Call, format, place, remove, find, list, Buffers, lent, Outcome, refuses, Test, _or_, unless, judge, goodDomains, windowOf, removing, finding, tests, core, outcome, Promise}
 use Rattle.kdb.specs.Frames.{wordsOf, newOf, placeOf, slots, withWords, framed, Frame, new, call, Reply, answerText, renewed, answered, obey}
-use Rattle.kdb.proofs.Lists.{and-false, cases, cond-case}
+use Rattle.kdb.proofs.Tests.{and-false, cases, cond-case}
 use Rattle.kdb.proofs.Lawful.{refusal-keeps}
 use Rattle.kdb.proofs.Frames.{format-length, place-work}
 use Rattle.opening.specs.Opens.{finishedAs}

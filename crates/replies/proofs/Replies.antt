@@ -9,7 +9,8 @@ use lib.ListN.{length, getD, take, drop, take-append-drop}
 use lib.Seq.{sets, take-all, take-at, take-length, length-take-le}
 use borrow.Author.Tests.{le-leb, lt-leb, ne-eqb}
 use Rattle.kdb.specs.Frames.{Frame, unknown, withWords, wordsOf, frameOf, framed, Reply, refusal}
-use Rattle.kdb.proofs.Lists.{bool, sets-front}
+use Rattle.kdb.proofs.Tests.{bool}
+use Rattle.kdb.proofs.Stores.{sets-front}
 use Rattle.text.specs.Text.{counted}
 use Rattle.answers.specs.Spoken.{Unframed}
 use Rattle.replies.specs.Reply.{Replied}

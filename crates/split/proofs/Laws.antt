@@ -11,7 +11,8 @@ use borrow.Author.Tests.{lt-ltb, le-leb, lt-leb, eq-eqb, ne-eqb, ltb-true, ltb-f
 use Rattle.kdb.specs.Steps.{afterForced}
 use Rattle.kdb.specs.Calls.{L}
 use Rattle.kdb.specs.Pages.{page}
-use Rattle.kdb.proofs.Lists.{bool, is-true, is-false, and-t, sets-all}
+use Rattle.kdb.proofs.Tests.{bool, is-true, is-false, and-t}
+use Rattle.kdb.proofs.Stores.{sets-all}
 use Rattle.kdb.proofs.Pages.{page-full}
 use Rattle.steps.specs.Machine.{Passed, Claimed, word, freshIn, appendIn}
 use Rattle.steps.specs.Claim.{claimIn}

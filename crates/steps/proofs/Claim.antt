@@ -9,7 +9,9 @@ use lib.ListN.{length, getD}
 use borrow.Author.Tests.{eq-eqb, ne-eqb}
 use Rattle.kdb.specs.Lists.{only, many, upFrom, pad}
 use Rattle.kdb.specs.Pages.{layout, page}
-use Rattle.kdb.proofs.Lists.{bool, self, no-bit, length-pad, only-same, only-in, only-once, only-claimed}
+use Rattle.kdb.proofs.Tests.{bool, self, no-bit}
+use Rattle.kdb.proofs.Counts.{only-same, only-in, only-once, only-claimed}
+use Rattle.kdb.proofs.Stores.{length-pad}
 use Rattle.steps.specs.Machine.{word, freshIn}
 use Rattle.steps.specs.Claim.{lowest, claimIn}
 use Rattle.kdb.proofs.Pages.{word-at}

@@ -9,7 +9,7 @@ use lib.Seq.{getD-append-add, getD-at, set-at, getD-drop, take-at, drop-at, drop
 use Rattle.kdb.specs.Box.{Box, sides, keyAt, lowerAt, upperAt, leftPart, rightPart}
 use Rattle.kdb.specs.Tree.{Rec}
 use Rattle.kdb.specs.Pages.{Ent, wordsR, wordsE}
-use Rattle.kdb.proofs.Lists.{set-append-add}
+use Rattle.kdb.proofs.Stores.{set-append-add}
 use Rattle.kdb.proofs.Tiling.{part-length}
 use Rattle.kdb.proofs.Pages.{lows, highs, both-length, entOf, ent-back}
 use Rattle.steps.specs.Grow.{boxAt}

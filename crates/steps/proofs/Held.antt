@@ -10,7 +10,9 @@ use Rattle.kdb.specs.Tree.{Rec, Tree, leaf, node, Forest, fnil, fcons, root, bo
 use Rattle.kdb.specs.Pages.{points, regions, wordsR, wordsE, printPage}
 use Rattle.kdb.specs.Steps.{size, joinF}
 use Rattle.kdb.specs.Print.{ents}
-use Rattle.kdb.proofs.Lists.{self, many-append, gather-append, length-gather, each-map}
+use Rattle.kdb.proofs.Tests.{self}
+use Rattle.kdb.proofs.Lists.{gather-append, length-gather, each-map}
+use Rattle.kdb.proofs.Counts.{many-append}
 use Rattle.kdb.proofs.Pages.{rec-length, ent-length}
 use Rattle.steps.proofs.Entry.{ent}
 

@@ -12,7 +12,8 @@ use lib.Seq.{sets, length-sets}
 use borrow.Author.Tests.{le-leb}
 use Rattle.kdb.specs.Lists.{bit, pad}
 use Rattle.kdb.specs.Pages.{layout, page}
-use Rattle.kdb.proofs.Lists.{ne-of-bit, sets-cons, sets-all, length-pad, pad-sets, pad-nil, pad-tail, pad-pad}
+use Rattle.kdb.proofs.Tests.{ne-of-bit}
+use Rattle.kdb.proofs.Stores.{sets-cons, sets-all, length-pad, pad-sets, pad-nil, pad-tail, pad-pad}
 use Rattle.kdb.proofs.Pages.{page-sets, page-sets-other, word-at}
 use Rattle.steps.specs.Machine.{word, freshIn, appendIn, overfull}
 

@@ -18,7 +18,8 @@ use Rattle.kdb.specs.Pages.{regionsPer, pointsPer, layout, wordsR, wordsE, page
 use Rattle.kdb.specs.Pool.{domains, pagesIn}
 use Rattle.kdb.specs.Shape.{WellFormed}
 use Rattle.kdb.specs.Print.{printed}
-use Rattle.kdb.proofs.Lists.{none-of, many-append}
+use Rattle.kdb.proofs.Tests.{none-of}
+use Rattle.kdb.proofs.Counts.{many-append}
 use Rattle.kdb.proofs.Tiling.{part-length}
 use Rattle.kdb.proofs.Pages.{rec-length, ent-length, points-fit, regions-fit}
 use Rattle.kdb.proofs.Views.{whole-under, whole-length}

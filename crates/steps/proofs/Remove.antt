@@ -21,7 +21,10 @@ use Rattle.kdb.specs.Pool.{domains, countAt, pagesIn, view, isPage}
 use Rattle.kdb.specs.Walk.{Spot, spots, goodPoints, goodRegions, rootless, bad, here, Search, ends, after, spotOf, into, seek, findWalk}
 use Rattle.kdb.specs.Shape.{WellFormed}
 use Rattle.kdb.specs.Print.{ents, header, printed}
-use Rattle.kdb.proofs.Lists.{bool, is-true, is-false, choice-true, choice-false, no-bit, self, append-each, gather-append, many-append, length-pad, pad-nil, sets-append, pad-gap}
+use Rattle.kdb.proofs.Tests.{bool, is-true, is-false, choice-true, choice-false, no-bit, self}
+use Rattle.kdb.proofs.Lists.{append-each, gather-append}
+use Rattle.kdb.proofs.Counts.{many-append}
+use Rattle.kdb.proofs.Stores.{length-pad, pad-nil, sets-append, pad-gap}
 use Rattle.kdb.proofs.Pages.{rec-length, points-fit}
 use Rattle.kdb.proofs.Views.{Seen, SeenF, whole-under}
 use Rattle.kdb.proofs.Print.{some-levels, header-words, stands-seen}

@@ -16,7 +16,10 @@ use Rattle.kdb.specs.Cut.{Lies, left, right, across, isLeft, isRight}
 use Rattle.kdb.specs.Steps.{Two, TwoF, deal, split, splitF, afterForced, size}
 use Rattle.kdb.specs.Pages.{points, layout, wordsR, wordsE, printPage, page}
 use Rattle.kdb.specs.Print.{ents}
-use Rattle.kdb.proofs.Lists.{self, many-append, each-only, only-most, pad-tail}
+use Rattle.kdb.proofs.Tests.{self}
+use Rattle.kdb.proofs.Lists.{each-only}
+use Rattle.kdb.proofs.Counts.{many-append, only-most}
+use Rattle.kdb.proofs.Stores.{pad-tail}
 use Rattle.kdb.proofs.Tiling.{lies-case, keep, parts, part-length}
 use Rattle.kdb.proofs.Pages.{ent-length, word-at}
 use Rattle.steps.specs.Machine.{Passed, Claimed, word, freshIn, appendIn}

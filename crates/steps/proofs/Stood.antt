@@ -18,7 +18,9 @@ use Rattle.kdb.specs.Steps.{freeOf}
 use Rattle.kdb.specs.Pages.{Page, blank, points, regions, inUse, printPage, page}
 use Rattle.kdb.specs.Shape.{Shaped, ShapedF, Numbered, WellFormed}
 use Rattle.kdb.specs.Print.{orPage, pageOf, pageOfF, pageAt, header, printed}
-use Rattle.kdb.proofs.Lists.{and-l, and-r, each-every, self, many-append, only-same, only-in, only-once}
+use Rattle.kdb.proofs.Tests.{and-l, and-r, self}
+use Rattle.kdb.proofs.Lists.{each-every}
+use Rattle.kdb.proofs.Counts.{many-append, only-same, only-in, only-once}
 use Rattle.kdb.proofs.Pages.{word-at, pool-ext}
 use Rattle.kdb.proofs.Views.{Seen, SeenF, seen-own, at, among, page-in, page-out, or-first, Under, under-key, under-length, tiles-under}
 use Rattle.kdb.proofs.Print.{print-length, print-header, print-page, header-words}

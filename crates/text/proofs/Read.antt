@@ -13,7 +13,7 @@ use lib.Seq.{drop-cons, take-suc-set}
 use borrow.Author.Tests.{le-leb, lt-leb, lt-ltb, le-ltb}
 use Rattle.kdb.specs.Lists.{andThen}
 use Rattle.kdb.specs.Frames.{digit, between, bytesOf, wordsOf}
-use Rattle.kdb.proofs.Lists.{and-false, and-l, and-r, of-true, of-false, is-true}
+use Rattle.kdb.proofs.Tests.{and-false, and-l, and-r, of-true, of-false, is-true}
 use Rattle.text.specs.Text.{below, counted, pairOf, wordAt}
 
 -- a character in a range, under it and over it

@@ -8,7 +8,8 @@ use lib.ListN.{length, getD, take, set, length-append, length-set}
 use lib.Seq.{sets, take-suc, take-all, length-sets}
 use Rattle.kdb.specs.Lists.{gather}
 use Rattle.kdb.specs.Frames.{digitOf, hex}
-use Rattle.kdb.proofs.Lists.{sets-append, set-past, gather-append}
+use Rattle.kdb.proofs.Lists.{gather-append}
+use Rattle.kdb.proofs.Stores.{sets-append, set-past}
 use Rattle.text.specs.Text.{Written}
 
 pub length-hex : (n v : ℕ) → length (hex n v) ≡ n

@@ -15,7 +15,8 @@ use Rattle.kdb.specs.Pool.{domains, pagesIn, goodLength, goodHeader, GoodLength
 use Rattle.kdb.specs.Calls.{L, finite}
 use Rattle.kdb.specs.declared.Form.{Form}
 use Rattle.kdb.specs.Box.{∞}
-use Rattle.kdb.proofs.Lists.{and-t, is-true, of-true, sets-whole}
+use Rattle.kdb.proofs.Tests.{and-t, is-true, of-true}
+use Rattle.kdb.proofs.Stores.{sets-whole}
 use Rattle.kdb.proofs.Pool.{length-iff, header-iff}
 use Rattle.kdb.proofs.Words.{page-rest}
 use Rattle.words.specs.Loops.{allBy}

@@ -1,6 +1,6 @@
 -- `place::place_in` meets its contract: places a point: work becomes the copy of the pool before the steps alter the pool, and where a
 -- page is wanting the pool becomes the copy of work again.
-use Rattle.kdb.proofs.Lists.{sets-all}
+use Rattle.kdb.proofs.Stores.{sets-all}
 use mathlib.Core.Path.{sym, _∙_}
 use Rattle.place.proofs.Laws.{place-done, place-back}
 use borrow.Author.Needs.{needs}
