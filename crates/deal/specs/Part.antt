@@ -1,22 +1,20 @@
 -- The parts of a split that have a function of their own, in the terms of the machine forms.
 use mathlib.Core.Bool.{cond}
 use mathlib.Core.List.{List}
-use Prim.Native.Nat.{ℕ, _+_, _*_, _≤_, _<_, _^_}
+use Prim.Native.Nat.{ℕ, _+_, _*_, _<_, _^_}
 use lib.Dec.{eqb}
 use lib.ListN.{take, drop, set}
 use Rattle.kdb.specs.Calls.{L}
+use Rattle.kdb.specs.declared.Form.{Form}
 use Rattle.steps.specs.Machine.{Claimed, freshIn, appendIn}
 use Rattle.steps.specs.Claim.{claimIn}
 
 abbrev pub claimed : ℕ → List ℕ → Claimed
 claimed r w = record { page = r; words = w }
 
--- n pages, k domains, along x in domain d
-pub record Cutting (n k d x : ℕ) : Type 0 where
-  pub least : 1 ≤ n
-  pub most : n ≤ 512
-  pub domains : k ≤ 4
-  pub domain : d < k
+-- along x in domain d: a domain that there is, and a word
+pub record Along (f : Form) (d x : ℕ) : Type 0 where
+  pub domain : d < f .domains
   pub key : x < 2 ^ 32
 
 -- the right page is claimed and page j cleared

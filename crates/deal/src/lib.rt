@@ -1,5 +1,6 @@
 // Dealing out a page along a cut: a page is claimed, and the entries go from a copy of the page to the two sides, each behind the last one
 // there; an entry that crosses goes to both, as halves.
+use kdb::Form;
 use words::clear;
 use words::get;
 use words::lowest_free;
@@ -15,7 +16,8 @@ ghost use Rattle.kdb.specs.Calls.{L};
 ghost use Rattle.steps.specs.Machine.{freshIn, appendIn};
 ghost use Rattle.steps.specs.Claim.{claimIn};
 ghost use Rattle.steps.specs.Split.{pointsIn, partPoints};
-ghost use Rattle.deal.specs.Part.{claimed, openIn, halfIn, bothIn, Cutting};
+ghost use Rattle.words.specs.Words.{Formed};
+ghost use Rattle.deal.specs.Part.{claimed, openIn, halfIn, bothIn, Along};
 
 // How many of the `count` words from `from` on src has.
 pub fn has(src: &[u32], from: usize, count: usize) -> usize
@@ -55,13 +57,13 @@ pub fn fresh(pool: &mut [u32], c: usize, kind: usize, e: usize)
     put(pool, 32 * c + 2, e);
 }
 
-// Claims the lowest free page of n, or answers 0.
-pub fn claim(pool: &mut [u32], n: usize, kind: usize, e: usize) -> usize
-    requires { ⌜ (1 ≤ n) × ((n ≤ 512) × ((kind < 2 ^ 32) × (e < 2 ^ 32))) ⌝ }
-    ensures { λ r. ⌜ (claimed r (now (pool .exit)) ≡ claimIn L n kind e (now (pool .entry))) × (r < n) ⌝ }
+// Claims the lowest free page, or answers 0.
+pub fn claim(pool: &mut [u32], f: Form, kind: usize, e: usize) -> usize
+    requires { ⌜ Formed (now pool) f × ((kind < 2 ^ 32) × (e < 2 ^ 32)) ⌝ }
+    ensures { λ r. ⌜ (claimed r (now (pool .exit)) ≡ claimIn L (f .pages) kind e (now (pool .entry))) × (r < f .pages) ⌝ }
 {
-    let r = lowest_free(pool, n);
-    if r == n {
+    let r = lowest_free(pool, f.pages);
+    if r == f.pages {
         return 0;
     }
     fresh(pool, r, kind, e);
@@ -81,11 +83,11 @@ pub fn append(pool: &mut [u32], wd: usize, c: usize, src: &[u32], a: usize)
 }
 
 // Claims the right page, and clears page j for the left: the right page, or 0.
-pub fn open_pages(pool: &mut [u32], n: usize, kind: usize, e: usize, j: usize) -> usize
-    requires { ⌜ (1 ≤ n) × ((n ≤ 512) × ((kind < 2 ^ 32) × ((e < 2 ^ 32) × (j < 2 ^ 32)))) ⌝ }
-    ensures { λ r. ⌜ (claimed r (now (pool .exit)) ≡ openIn n kind e j (now (pool .entry))) × (r < n) ⌝ }
+pub fn open_pages(pool: &mut [u32], f: Form, kind: usize, e: usize, j: usize) -> usize
+    requires { ⌜ Formed (now pool) f × ((kind < 2 ^ 32) × ((e < 2 ^ 32) × (j < 2 ^ 32))) ⌝ }
+    ensures { λ r. ⌜ (claimed r (now (pool .exit)) ≡ openIn (f .pages) kind e j (now (pool .entry))) × (r < f .pages) ⌝ }
 {
-    let r = claim(pool, n, kind, e);
+    let r = claim(pool, f, kind, e);
     if r == 0 {
         return 0;
     }
@@ -140,8 +142,7 @@ fn deal_points(
 // The m records of src go to page j and a claimed page, both of domain e: the claimed page, or 0.
 pub fn part_points(
     pool: &mut [u32],
-    n: usize,
-    k: usize,
+    f: Form,
     d: usize,
     x: usize,
     src: &[u32],
@@ -149,14 +150,14 @@ pub fn part_points(
     e: usize,
     j: usize,
 ) -> usize
-    requires { ⌜ (Cutting n k d x) × ((m < 2 ^ 33) × ((e < 2 ^ 32) × (j < 2 ^ 32))) ⌝ }
-    ensures { λ r. ⌜ (claimed r (now (pool .exit)) ≡ partPoints L n k d x (now (src .entry)) m e j (now (pool .entry))) × (r < n) ⌝ }
+    requires { ⌜ Formed (now pool) f × (Along f d x × ((m < 2 ^ 33) × ((e < 2 ^ 32) × (j < 2 ^ 32)))) ⌝ }
+    ensures { λ r. ⌜ (claimed r (now (pool .exit)) ≡ partPoints L (f .pages) (f .domains) d x (now (src .entry)) m e j (now (pool .entry))) × (r < f .pages) ⌝ }
 {
-    let r = open_pages(pool, n, 2, e, j);
+    let r = open_pages(pool, f, 2, e, j);
     if r == 0 {
         return 0;
     }
-    deal_points(pool, k, d, x, src, m, j, r);
+    deal_points(pool, f.domains, d, x, src, m, j, r);
     r
 }
 

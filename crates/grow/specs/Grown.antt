@@ -1,12 +1,14 @@
 -- How a page took an entry, and the two ways in which a page takes one more entry, in the terms of the machine forms.
-use mathlib.Core.Bool.{true, false, cond}
+use mathlib.Core.Bool.{cond}
 use mathlib.Core.List.{List, map}
-use Prim.Native.Nat.{ℕ, _+_, _*_, _≤_, _<_, _^_}
+use Prim.Native.Nat.{ℕ, _+_, _*_, _<_}
 use lib.Dec.{ltb, eqb}
 use lib.ListN.{drop}
 use Rattle.kdb.specs.Calls.{L}
 use Rattle.kdb.specs.Cut.{cutPoints, cutRegions}
 use Rattle.kdb.specs.Pages.{regionsPer, pointsPer, readRecs, readEnts}
+use Rattle.kdb.specs.declared.Form.{Form}
+use Rattle.deal.specs.Part.{Along}
 use Rattle.steps.specs.Machine.{appendIn, overfull}
 use Rattle.steps.specs.Grow.{How, short, fine, broke, Grown, breakPoints, breakRegions}
 use Rattle.grow.specs.declared.Grown.{Grown as Answer}
@@ -17,18 +19,10 @@ howOf g = cond (eqb (g .page) 0) (cond (g .ok) fine short) (broke (g .domain) (g
 abbrev pub grownAs : Answer → List ℕ → Grown
 grownAs g w = record { how = howOf g; words = w }
 
--- n pages and k domains
-pub record Placing (n k : ℕ) : Type 0 where
-  pub least : 1 ≤ n
-  pub most : n ≤ 512
-  pub some : 1 ≤ k
-  pub few : k ≤ 4
-
--- a page and a domain that there are, and a word
-pub record Sane (n k : ℕ) (g : Answer) : Type 0 where
-  pub page : g .page < n
-  pub domain : g .domain < k
-  pub key : g .key < 2 ^ 32
+-- a page that there is, and a cut that can be
+pub record Real (f : Form) (g : Answer) : Type 0 where
+  pub page : g .page < f .pages
+  pub cut : Along f (g .domain) (g .key)
 
 -- page j of domain e takes the entry u behind its m entries
 unfoldable pub settlePoints : ℕ → ℕ → ℕ → ℕ → List ℕ → ℕ → List ℕ → Grown

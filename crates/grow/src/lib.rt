@@ -7,6 +7,7 @@ use deal::copy_part;
 use deal::half;
 use deal::has;
 use deal::part_points;
+use kdb::Form;
 use split::part_regions;
 use words::get;
 use words::points_per;
@@ -14,7 +15,7 @@ use words::put;
 use words::regions_per;
 use words::word;
 ghost use mathlib.Core.Path.{_≡_};
-ghost use Prim.Native.Nat.{_+_, _*_, _-_, _≤_, _<_, _^_};
+ghost use Prim.Native.Nat.{_+_, _*_, _≤_, _<_, _^_};
 ghost use lib.ListN.{length, set};
 ghost use lib.Seq.{sets};
 ghost use Rattle.kdb.specs.Box.{within};
@@ -22,9 +23,11 @@ ghost use Rattle.kdb.specs.Calls.{L};
 ghost use Rattle.kdb.specs.Cut.{choose};
 ghost use Rattle.kdb.specs.Pages.{page, regionsPer, pointsPer};
 ghost use Rattle.cut.specs.Keys.{keysIn, Entries};
+ghost use Rattle.words.specs.Words.{Formed};
+ghost use Rattle.deal.specs.Part.{Along};
 ghost use Rattle.steps.specs.Machine.{word};
 ghost use Rattle.steps.specs.Grow.{boxAt, seekIn, breakPoints, breakRegions, widenIn, growIn};
-ghost use Rattle.grow.specs.Grown.{grownAs, Sane, Placing, settlePoints, settleRegions};
+ghost use Rattle.grow.specs.Grown.{grownAs, Real, settlePoints, settleRegions};
 
 // How a page took the point, if it did: with room, where page is 0, or broken along a key of a domain, page the right one.
 pub struct Grown {
@@ -47,18 +50,18 @@ fn holds(pool: &[u32], k: usize, a: usize, point: &[u32]) -> bool
 }
 
 // The place of the first entry of page j whose region holds the point, or 0.
-fn seek(pool: &[u32], k: usize, point: &[u32], j: usize) -> usize
-    requires { ⌜ (1 ≤ k) × ((k ≤ 4) × ((j < 2 ^ 32) × (length (now point) ≡ k))) ⌝ }
-    ensures { λ r. ⌜ (r ≡ seekIn k (now (point .entry)) (word L (now (pool .entry)) j 1) (now (pool .entry)) (L * j + 4)) × (r < 2 ^ 40) ⌝ }
+fn seek(pool: &[u32], f: Form, point: &[u32], j: usize) -> usize
+    requires { ⌜ Formed (now pool) f × ((j < 2 ^ 32) × (length (now point) ≡ f .domains)) ⌝ }
+    ensures { λ r. ⌜ (r ≡ seekIn (f .domains) (now (point .entry)) (word L (now (pool .entry)) j 1) (now (pool .entry)) (L * j + 4)) × (r < 2 ^ 40) ⌝ }
 {
     let m = word(pool, j, 1);
     let mut a = 32 * j + 4;
     let mut i: usize = 0;
     while i < m {
-        if holds(pool, k, a, point) {
+        if holds(pool, f.domains, a, point) {
             return a;
         }
-        a += 2 * k + 1;
+        a += 2 * f.domains + 1;
         i += 1;
     }
     0
@@ -74,18 +77,11 @@ fn copy_overfull(over: &mut [u32], pool: &[u32], wd: usize, j: usize, entry: &[u
 }
 
 // The m records of src are split between page j and a claimed page, along the cut that they offer from domain e on.
-fn break_points(
-    pool: &mut [u32],
-    n: usize,
-    k: usize,
-    src: &[u32],
-    m: usize,
-    e: usize,
-    j: usize,
-) -> Grown
-    requires { ⌜ (Placing n k) × ((Entries k (k + 1) m) × ((e < 2 ^ 32) × (j < 2 ^ 32))) ⌝ }
-    ensures { λ r. ⌜ (grownAs r (now (pool .exit)) ≡ breakPoints L n k (regionsPer L k) (pointsPer L k) (choose k k e (keysIn k (k + 1) m (now (src .entry)))) (now (src .entry)) m j (now (pool .entry))) × Sane n k r ⌝ }
+fn break_points(pool: &mut [u32], f: Form, src: &[u32], m: usize, e: usize, j: usize) -> Grown
+    requires { ⌜ Formed (now pool) f × (Entries (f .domains) (f .domains + 1) m × ((e < 2 ^ 32) × (j < 2 ^ 32))) ⌝ }
+    ensures { λ r. ⌜ (grownAs r (now (pool .exit)) ≡ breakPoints L (f .pages) (f .domains) (regionsPer L (f .domains)) (pointsPer L (f .domains)) (choose (f .domains) (f .domains) e (keysIn (f .domains) (f .domains + 1) m (now (src .entry)))) (now (src .entry)) m j (now (pool .entry))) × Real f r ⌝ }
 {
+    let k = f.domains;
     let c = choose(src, k, k + 1, m, e);
     let found = c.found;
     if found {} else {
@@ -96,7 +92,7 @@ fn break_points(
             key: 0,
         };
     }
-    let r = part_points(pool, n, k, c.domain, c.key, src, m, (c.domain + 1) % k, j);
+    let r = part_points(pool, f, c.domain, c.key, src, m, (c.domain + 1) % k, j);
     Grown {
         ok: r != 0,
         page: r,
@@ -108,17 +104,17 @@ fn break_points(
 // The m entries of src likewise; their children stand `level` levels above the point pages.
 fn break_regions(
     pool: &mut [u32],
-    n: usize,
-    k: usize,
+    f: Form,
     level: usize,
     src: &[u32],
     m: usize,
     e: usize,
     j: usize,
 ) -> Grown
-    requires { ⌜ (Placing n k) × ((length (now pool) ≡ 32 * n) × ((Entries k (2 * k + 1) m) × ((e < 2 ^ 32) × (j < 2 ^ 32)))) ⌝ }
-    ensures { λ r. ⌜ (grownAs r (now (pool .exit)) ≡ breakRegions L n k (regionsPer L k) (pointsPer L k) level (choose k k e (keysIn k (2 * k + 1) m (now (src .entry)))) (now (src .entry)) m j (now (pool .entry))) × Sane n k r ⌝ }
+    requires { ⌜ Formed (now pool) f × (Entries (f .domains) (2 * f .domains + 1) m × ((e < 2 ^ 32) × (j < 2 ^ 32))) ⌝ }
+    ensures { λ r. ⌜ (grownAs r (now (pool .exit)) ≡ breakRegions L (f .pages) (f .domains) (regionsPer L (f .domains)) (pointsPer L (f .domains)) level (choose (f .domains) (f .domains) e (keysIn (f .domains) (2 * f .domains + 1) m (now (src .entry)))) (now (src .entry)) m j (now (pool .entry))) × Real f r ⌝ }
 {
+    let k = f.domains;
     let c = choose(src, k, 2 * k + 1, m, e);
     let found = c.found;
     if found {} else {
@@ -131,8 +127,7 @@ fn break_regions(
     }
     let r = part_regions(
         pool,
-        n,
-        k,
+        f,
         c.domain,
         c.key,
         level,
@@ -150,18 +145,11 @@ fn break_regions(
 }
 
 // Page j, with m records and of domain e, takes a record behind its last one, and is split if it was full.
-fn settle_points(
-    pool: &mut [u32],
-    n: usize,
-    k: usize,
-    m: usize,
-    e: usize,
-    entry: &[u32],
-    j: usize,
-) -> Grown
-    requires { ⌜ (Placing n k) × ((m < 2 ^ 32) × ((e < 2 ^ 32) × ((length (now entry) ≤ k + 1) × (j < 2 ^ 32)))) ⌝ }
-    ensures { λ r. ⌜ (grownAs r (now (pool .exit)) ≡ settlePoints n k m e (now (entry .entry)) j (now (pool .entry))) × Sane n k r ⌝ }
+fn settle_points(pool: &mut [u32], f: Form, m: usize, e: usize, entry: &[u32], j: usize) -> Grown
+    requires { ⌜ Formed (now pool) f × ((m < 2 ^ 32) × ((e < 2 ^ 32) × ((length (now entry) ≤ f .domains + 1) × (j < 2 ^ 32)))) ⌝ }
+    ensures { λ r. ⌜ (grownAs r (now (pool .exit)) ≡ settlePoints (f .pages) (f .domains) m e (now (entry .entry)) j (now (pool .entry))) × Real f r ⌝ }
 {
+    let k = f.domains;
     let most = points_per(k);
     if m < most {
         append(pool, k + 1, j, entry, 0);
@@ -175,7 +163,7 @@ fn settle_points(
     if m == most {
         let mut over = [0u32; 48];
         copy_overfull(&mut over, pool, k + 1, j, entry);
-        return break_points(pool, n, k, &over[..33 + k], m + 1, e, j);
+        return break_points(pool, f, &over[..33 + k], m + 1, e, j);
     }
     Grown {
         ok: false,
@@ -188,17 +176,17 @@ fn settle_points(
 // Page j, with m entries and of domain e, likewise.
 fn settle_regions(
     pool: &mut [u32],
-    n: usize,
-    k: usize,
+    f: Form,
     level: usize,
     m: usize,
     e: usize,
     entry: &[u32],
     j: usize,
 ) -> Grown
-    requires { ⌜ (Placing n k) × ((length (now pool) ≡ 32 * n) × ((m < 2 ^ 32) × ((e < 2 ^ 32) × ((length (now entry) ≤ 2 * k + 1) × (j < 2 ^ 32))))) ⌝ }
-    ensures { λ r. ⌜ (grownAs r (now (pool .exit)) ≡ settleRegions n k level m e (now (entry .entry)) j (now (pool .entry))) × Sane n k r ⌝ }
+    requires { ⌜ Formed (now pool) f × ((m < 2 ^ 32) × ((e < 2 ^ 32) × ((length (now entry) ≤ 2 * f .domains + 1) × (j < 2 ^ 32)))) ⌝ }
+    ensures { λ r. ⌜ (grownAs r (now (pool .exit)) ≡ settleRegions (f .pages) (f .domains) level m e (now (entry .entry)) j (now (pool .entry))) × Real f r ⌝ }
 {
+    let k = f.domains;
     let most = regions_per(k);
     if m < most {
         append(pool, 2 * k + 1, j, entry, 0);
@@ -212,7 +200,7 @@ fn settle_regions(
     if m == most {
         let mut over = [0u32; 48];
         copy_overfull(&mut over, pool, 2 * k + 1, j, entry);
-        return break_regions(pool, n, k, level, &over[..33 + 2 * k], m + 1, e, j);
+        return break_regions(pool, f, level, &over[..33 + 2 * k], m + 1, e, j);
     }
     Grown {
         ok: false,
@@ -232,29 +220,21 @@ pub fn write_record(to: &mut [u32], k: usize, point: &[u32], location: usize)
 }
 
 // Point page j takes the point.
-fn grow_points(
-    pool: &mut [u32],
-    n: usize,
-    k: usize,
-    j: usize,
-    point: &[u32],
-    location: usize,
-) -> Grown
-    requires { ⌜ (Placing n k) × ((length (now point) ≡ k) × ((location < 2 ^ 32) × (j < 2 ^ 32))) ⌝ }
-    ensures { λ r. ⌜ (grownAs r (now (pool .exit)) ≡ growIn L n k (regionsPer L k) (pointsPer L k) (now (point .entry)) location 0 j (now (pool .entry))) × Sane n k r ⌝ }
+fn grow_points(pool: &mut [u32], f: Form, j: usize, point: &[u32], location: usize) -> Grown
+    requires { ⌜ Formed (now pool) f × ((length (now point) ≡ f .domains) × ((location < 2 ^ 32) × (j < 2 ^ 32))) ⌝ }
+    ensures { λ r. ⌜ (grownAs r (now (pool .exit)) ≡ growIn L (f .pages) (f .domains) (regionsPer L (f .domains)) (pointsPer L (f .domains)) (now (point .entry)) location 0 j (now (pool .entry))) × Real f r ⌝ }
 {
     let m = word(pool, j, 1);
     let e = word(pool, j, 2);
     let mut entry = [0u32; 5];
-    write_record(&mut entry, k, point, location);
-    settle_points(pool, n, k, m, e, &entry[..k + 1], j)
+    write_record(&mut entry, f.domains, point, location);
+    settle_points(pool, f, m, e, &entry[..f.domains + 1], j)
 }
 
 // Region page j, whose child in the entry at word a broke along x in domain d with r as its right page, takes both halves.
 fn widen(
     pool: &mut [u32],
-    n: usize,
-    k: usize,
+    f: Form,
     level: usize,
     d: usize,
     x: usize,
@@ -262,35 +242,35 @@ fn widen(
     a: usize,
     j: usize,
 ) -> Grown
-    requires { ⌜ (Placing n k) × ((length (now pool) ≡ 32 * n) × ((d < k) × ((x < 2 ^ 32) × ((r < 2 ^ 32) × ((a < 2 ^ 40) × (j < 2 ^ 32)))))) ⌝ }
-    ensures { λ g. ⌜ (grownAs g (now (pool .exit)) ≡ widenIn L n k (regionsPer L k) (pointsPer L k) level d x r a j (now (pool .entry))) × Sane n k g ⌝ }
+    requires { ⌜ Formed (now pool) f × (Along f d x × ((r < 2 ^ 32) × ((a < 2 ^ 40) × (j < 2 ^ 32)))) ⌝ }
+    ensures { λ g. ⌜ (grownAs g (now (pool .exit)) ≡ widenIn L (f .pages) (f .domains) (regionsPer L (f .domains)) (pointsPer L (f .domains)) level d x r a j (now (pool .entry))) × Real f g ⌝ }
 {
+    let k = f.domains;
     let m = word(pool, j, 1);
     let e = word(pool, j, 2);
     let mut entry = [0u32; 9];
     half(&mut entry, k, pool, a, d, x, r);
     let len = has(pool, a, 2 * k + 1);
     put(pool, a + k + d, x);
-    settle_regions(pool, n, k, level, m, e, &entry[..len], j)
+    settle_regions(pool, f, level, m, e, &entry[..len], j)
 }
 
 // Page j, `level` levels above the point pages, takes the point with its location.
 pub fn grow(
     pool: &mut [u32],
-    n: usize,
-    k: usize,
+    f: Form,
     level: usize,
     j: usize,
     point: &[u32],
     location: usize,
 ) -> Grown
-    requires { ⌜ (Placing n k) × ((length (now pool) ≡ 32 * n) × ((length (now point) ≡ k) × ((location < 2 ^ 32) × (j < 2 ^ 32)))) ⌝ }
-    ensures { λ r. ⌜ (grownAs r (now (pool .exit)) ≡ growIn L n k (regionsPer L k) (pointsPer L k) (now (point .entry)) location level j (now (pool .entry))) × Sane n k r ⌝ }
+    requires { ⌜ Formed (now pool) f × ((length (now point) ≡ f .domains) × ((location < 2 ^ 32) × (j < 2 ^ 32))) ⌝ }
+    ensures { λ r. ⌜ (grownAs r (now (pool .exit)) ≡ growIn L (f .pages) (f .domains) (regionsPer L (f .domains)) (pointsPer L (f .domains)) (now (point .entry)) location level j (now (pool .entry))) × Real f r ⌝ }
 {
     if level == 0 {
-        return grow_points(pool, n, k, j, point, location);
+        return grow_points(pool, f, j, point, location);
     }
-    let a = seek(pool, k, point, j);
+    let a = seek(pool, f, point, j);
     if a == 0 {
         return Grown {
             ok: false,
@@ -299,9 +279,16 @@ pub fn grow(
             key: 0,
         };
     }
-    let g = grow(pool, n, k, level - 1, get(pool, a + 2 * k), point, location);
+    let g = grow(
+        pool,
+        f,
+        level - 1,
+        get(pool, a + 2 * f.domains),
+        point,
+        location,
+    );
     if g.page == 0 {
         return g;
     }
-    widen(pool, n, k, level - 1, g.domain, g.key, g.page, a, j)
+    widen(pool, f, level - 1, g.domain, g.key, g.page, a, j)
 }

@@ -6,14 +6,17 @@ use Prim.Native.Nat.{ℕ, zero, suc, _+_, _-_, _*_, _<_, _≤_}
 use native.Mathlib.Omega.{arith}
 use native.Mathlib.Nat.{mul-le-mul}
 use lib.Dec.{eqb}
-use lib.ListN.{length, take, drop, getD, set, replicate}
+use lib.ListN.{take, drop, getD, set, replicate}
 use lib.Seq.{sets, set-comm, set-set}
 use borrow.Author.Tests.{eq-eqb, ne-eqb}
 use Rattle.kdb.specs.Lists.{only, upFrom}
 use Rattle.kdb.specs.Box.{Key}
 use Rattle.kdb.specs.Calls.{L}
 use Rattle.kdb.specs.Pages.{regionsPer, pointsPer}
-use Rattle.kdb.specs.Pool.{domains, rootAt, levelsAt, countAt, pagesIn}
+use Rattle.kdb.specs.Pool.{rootAt, levelsAt, countAt}
+use Rattle.kdb.specs.declared.Form.{Form}
+use Rattle.words.specs.Words.{Fit}
+use Rattle.words.proofs.Laws.{pages}
 use Rattle.deal.specs.Part.{claimed, halfIn}
 use Rattle.split.specs.Part.{passed}
 use Rattle.grow.specs.Grown.{grownAs}
@@ -110,29 +113,27 @@ module _ (n k root levels count : ℕ) (g : Answer) (w : List ℕ) where
   topped-short z t = rw (eq-eqb (g .page) 0 z, t)
 
 -- the steps, and the pool restored
-module _ (n : ℕ) (p : Key) (l : ℕ) (w : List ℕ) where
-  pub steps-first : levelsAt w ≡ 0 → firstIn L n (domains w) p l w ≡ stepsIn n p l w
+module _ (n k : ℕ) (p : Key) (l : ℕ) (w : List ℕ) where
+  pub steps-first : levelsAt w ≡ 0 → firstIn L n k p l w ≡ stepsIn n k p l w
   unfolding stepsIn
   steps-first z = rw (eq-eqb (levelsAt w) 0 z)
 
   pub steps-grown : (levelsAt w ≡ 0 → ⊥)
-      → toppedIn L n (domains w) (rootAt w) (levelsAt w) (countAt w) (growIn L n (domains w) (regionsPer L (domains w)) (pointsPer L (domains w)) p l (levelsAt w - 1) (rootAt w) w) ≡ stepsIn n p l w
+      → toppedIn L n k (rootAt w) (levelsAt w) (countAt w) (growIn L n k (regionsPer L k) (pointsPer L k) p l (levelsAt w - 1) (rootAt w) w) ≡ stepsIn n k p l w
   unfolding stepsIn
   steps-grown z = rw (ne-eqb (levelsAt w) 0 z)
 
-  module _ (h : length w ≡ 32 * n) where
-    pages : pagesIn L w ≡ n
-    pages = omega arith
+module _ (p : Key) (l : ℕ) (w : List ℕ) (f : Form) (h : Fit w f) where
+  place-steps : restored w (stepsIn (f .pages) (f .domains) p l w) ≡ placeIn L p l w
+  unfolding stepsIn placeIn
+  place-steps = rw (← h .says, ← pages w f (h .formed))
 
-    place-steps : restored w (stepsIn n p l w) ≡ placeIn L p l w
-    unfolding stepsIn placeIn
-    place-steps = rw pages
+  module _ (ok : Bool) (v : List ℕ) (e : passed ok v ≡ stepsIn (f .pages) (f .domains) p l w) where
+    pub place-done : ok ≡ true → passed true v ≡ placeIn L p l w
+    place-done t = (rw t at (ap (restored w) e)) ∙ place-steps
 
-    pub place-done : (ok : Bool) (v : List ℕ) → passed ok v ≡ stepsIn n p l w → ok ≡ true → passed true v ≡ placeIn L p l w
-    place-done ok v e t = (rw t at (ap (restored w) e)) ∙ place-steps
-
-    pub place-back : (ok : Bool) (v : List ℕ) → passed ok v ≡ stepsIn n p l w → ok ≡ false → passed false w ≡ placeIn L p l w
-    place-back ok v e t = (rw t at (ap (restored w) e)) ∙ place-steps
+    pub place-back : ok ≡ false → passed false w ≡ placeIn L p l w
+    place-back t = (rw t at (ap (restored w) e)) ∙ place-steps
 
 -- words that move down
 module _ (wd n i : ℕ) (w : List ℕ) (a : ℕ) (z : List ℕ) where
@@ -147,13 +148,13 @@ module _ (wd n i : ℕ) (w : List ℕ) (a : ℕ) (z : List ℕ) where
 pub far : (m wd : ℕ) → m < 4294967296 → wd ≤ 5 → m * wd ≤ 4294967296 * 5
 far m wd h g = mul-le-mul (let q : m ≤ 4294967296 = omega arith in q) g
 
-pub remove-is : (j slot : ℕ) (w : List ℕ)
-    → (let wd = domains w + 1 in let a = 32 * j + 4 + slot * wd in let n = 32 * j + 4 + word L w j 1 * wd - (a + wd) in
+pub remove-is : (j slot : ℕ) (w : List ℕ) (f : Form) → Fit w f
+    → (let wd = f .domains + 1 in let a = 32 * j + 4 + slot * wd in let n = 32 * j + 4 + word L w j 1 * wd - (a + wd) in
     set (set (sets (downIn wd n w a) (a + n) (replicate (a + n + wd - (a + n)) 0)) (32 * j + 1) (word L w j 1 - 1)) 4 (countAt w - 1)) ≡ removeIn L j slot w
 unfolding removeIn closeIn
-remove-is j slot w =
-    let wd = domains w + 1 in
+remove-is j slot w f h =
+    let wd = f .domains + 1 in
     let a = 32 * j + 4 + slot * wd in
     let n = 32 * j + 4 + word L w j 1 * wd - (a + wd) in
     let q : a + n + wd - (a + n) ≡ wd = omega arith in
-    ap (λ m. set (set (sets (downIn wd n w a) (a + n) (replicate m 0)) (32 * j + 1) (word L w j 1 - 1)) 4 (countAt w - 1)) q
+    rw (q, h .says)

@@ -5,34 +5,27 @@ use deal::claim;
 use grow::Grown;
 use grow::grow;
 use grow::write_record;
+use kdb::Form;
 use words::clear;
 use words::copy;
 use words::get;
 use words::put;
 use words::word;
 ghost use mathlib.Core.Path.{_≡_};
-ghost use Prim.Native.Nat.{_+_, _*_, _-_, _≤_, _<_, _^_};
+ghost use Prim.Native.Nat.{_+_, _-_, _<_, _^_};
 ghost use lib.ListN.{length};
 ghost use Rattle.kdb.specs.Calls.{L};
-ghost use Rattle.kdb.specs.Pool.{domains};
+ghost use Rattle.kdb.specs.Pool.{rootAt, levelsAt, countAt};
+ghost use Rattle.words.specs.Words.{Formed, Fit};
+ghost use Rattle.deal.specs.Part.{Along};
 ghost use Rattle.split.specs.Part.{passed};
-ghost use Rattle.grow.specs.Grown.{grownAs, Sane, Placing};
+ghost use Rattle.grow.specs.Grown.{grownAs, Real};
 ghost use Rattle.steps.specs.Place.{headIn, rootIn, toppedIn, firstIn, placeIn};
 ghost use Rattle.steps.specs.Remove.{downIn, removeIn};
-ghost use Rattle.place.specs.Steps.{Topping, Room, stepsIn};
+ghost use Rattle.place.specs.Steps.{Topping, stepsIn};
 
 // The entry of the whole space of k domains stands at word 4 - k.
-const WHOLE: [u32; 9] = [
-    0,
-    0,
-    0,
-    0,
-    4294967295,
-    4294967295,
-    4294967295,
-    4294967295,
-    0,
-];
+const WHOLE: [u32; 9] = [0, 0, 0, 0, u32::MAX, u32::MAX, u32::MAX, u32::MAX, 0];
 
 // The header's root, levels and count.
 fn write_header(pool: &mut [u32], root: usize, levels: usize, count: usize)
@@ -47,8 +40,7 @@ fn write_header(pool: &mut [u32], root: usize, levels: usize, count: usize)
 // The root became pages l and r, cut along x in domain d: a new root lists both.
 fn new_root(
     pool: &mut [u32],
-    n: usize,
-    k: usize,
+    f: Form,
     d: usize,
     x: usize,
     l: usize,
@@ -56,10 +48,11 @@ fn new_root(
     levels: usize,
     count: usize,
 ) -> bool
-    requires { ⌜ (Placing n k) × ((d < k) × ((x < 2 ^ 32) × ((r < 2 ^ 32) × Topping l levels count))) ⌝ }
-    ensures { λ ok. ⌜ passed ok (now (pool .exit)) ≡ rootIn L n k d x l r levels count (now (pool .entry)) ⌝ }
+    requires { ⌜ Formed (now pool) f × (Along f d x × ((r < 2 ^ 32) × Topping l levels count)) ⌝ }
+    ensures { λ ok. ⌜ passed ok (now (pool .exit)) ≡ rootIn L (f .pages) (f .domains) d x l r levels count (now (pool .entry)) ⌝ }
 {
-    let top = claim(pool, n, 1, 0);
+    let k = f.domains;
+    let top = claim(pool, f, 1, 0);
     if top == 0 {
         return false;
     }
@@ -70,22 +63,14 @@ fn new_root(
 }
 
 // What the root became.
-fn finish(
-    pool: &mut [u32],
-    n: usize,
-    k: usize,
-    root: usize,
-    levels: usize,
-    count: usize,
-    g: Grown,
-) -> bool
-    requires { ⌜ (Placing n k) × ((Topping root levels count) × Sane n k g) ⌝ }
-    ensures { λ ok. ⌜ passed ok (now (pool .exit)) ≡ toppedIn L n k root levels count (grownAs g (now (pool .entry))) ⌝ }
+fn finish(pool: &mut [u32], f: Form, root: usize, levels: usize, count: usize, g: Grown) -> bool
+    requires { ⌜ Formed (now pool) f × (Topping root levels count × Real f g) ⌝ }
+    ensures { λ ok. ⌜ passed ok (now (pool .exit)) ≡ toppedIn L (f .pages) (f .domains) root levels count (grownAs g (now (pool .entry))) ⌝ }
 {
     let page = g.page;
     let ok = g.ok;
     if page != 0 {
-        return new_root(pool, n, k, g.domain, g.key, root, page, levels, count);
+        return new_root(pool, f, g.domain, g.key, root, page, levels, count);
     }
     if ok {
         write_header(pool, root, levels, count + 1);
@@ -95,11 +80,12 @@ fn finish(
 }
 
 // The first point claims a point page.
-fn first_point(pool: &mut [u32], n: usize, k: usize, point: &[u32], location: usize) -> bool
-    requires { ⌜ (Placing n k) × ((length (now point) ≡ k) × (location < 2 ^ 32)) ⌝ }
-    ensures { λ ok. ⌜ passed ok (now (pool .exit)) ≡ firstIn L n k (now (point .entry)) location (now (pool .entry)) ⌝ }
+fn first_point(pool: &mut [u32], f: Form, point: &[u32], location: usize) -> bool
+    requires { ⌜ Formed (now pool) f × ((length (now point) ≡ f .domains) × (location < 2 ^ 32)) ⌝ }
+    ensures { λ ok. ⌜ passed ok (now (pool .exit)) ≡ firstIn L (f .pages) (f .domains) (now (point .entry)) location (now (pool .entry)) ⌝ }
 {
-    let r = claim(pool, n, 2, 0);
+    let k = f.domains;
+    let r = claim(pool, f, 2, 0);
     if r == 0 {
         return false;
     }
@@ -111,35 +97,28 @@ fn first_point(pool: &mut [u32], n: usize, k: usize, point: &[u32], location: us
 }
 
 // The steps of placing; where a page is wanting they are left half-way.
-fn place_steps(pool: &mut [u32], n: usize, point: &[u32], location: usize) -> bool
-    requires { ⌜ Room n (now pool) (now point) location ⌝ }
-    ensures { λ ok. ⌜ passed ok (now (pool .exit)) ≡ stepsIn n (now (point .entry)) location (now (pool .entry)) ⌝ }
+fn place_steps(pool: &mut [u32], f: Form, point: &[u32], location: usize) -> bool
+    requires { ⌜ Formed (now pool) f × (Topping (rootAt (now pool)) (levelsAt (now pool)) (countAt (now pool)) × ((length (now point) ≡ f .domains) × (location < 2 ^ 32))) ⌝ }
+    ensures { λ ok. ⌜ passed ok (now (pool .exit)) ≡ stepsIn (f .pages) (f .domains) (now (point .entry)) location (now (pool .entry)) ⌝ }
 {
-    let k = get(pool, 0);
     let root = get(pool, 2);
     let levels = get(pool, 3);
     let count = get(pool, 4);
     if levels == 0 {
-        return first_point(pool, n, k, point, location);
+        return first_point(pool, f, point, location);
     }
-    let g = grow(pool, n, k, levels - 1, root, point, location);
-    finish(pool, n, k, root, levels, count, g)
+    let g = grow(pool, f, levels - 1, root, point, location);
+    finish(pool, f, root, levels, count, g)
 }
 
 // Places a point: work becomes the copy of the pool before the steps alter the pool, and where a page is wanting the pool becomes the
 // copy of work again.
-pub fn place_in(
-    pool: &mut [u32],
-    work: &mut [u32],
-    n: usize,
-    point: &[u32],
-    location: usize,
-) -> bool
-    requires { ⌜ (Room n (now pool) (now point) location) × (length (now work) ≡ length (now pool)) ⌝ }
+pub fn place_in(pool: &mut [u32], work: &mut [u32], f: Form, point: &[u32], location: usize) -> bool
+    requires { ⌜ Fit (now pool) f × (Topping (rootAt (now pool)) (levelsAt (now pool)) (countAt (now pool)) × ((length (now point) ≡ f .domains) × ((location < 2 ^ 32) × (length (now work) ≡ length (now pool))))) ⌝ }
     ensures { λ ok. ⌜ (passed ok (now (pool .exit)) ≡ placeIn L (now (point .entry)) location (now (pool .entry))) × (now (work .exit) ≡ now (pool .entry)) ⌝ }
 {
     copy(work, pool);
-    let ok = place_steps(pool, n, point, location);
+    let ok = place_steps(pool, f, point, location);
     if ok {
         return true;
     }
@@ -156,7 +135,7 @@ fn less(a: usize, b: usize) -> usize
 
 // The n words behind the wd words at word a move down over them.
 fn move_down(pool: &mut [u32], wd: usize, n: usize, a: usize)
-    requires { ⌜ (wd ≤ 5) × ((n < 2 ^ 40) × (a < 2 ^ 40)) ⌝ }
+    requires { ⌜ a + n + wd < 2 ^ 64 ⌝ }
     ensures { λ _. ⌜ now (pool .exit) ≡ downIn wd n (now (pool .entry)) a ⌝ }
 {
     let mut at = a;
@@ -169,15 +148,16 @@ fn move_down(pool: &mut [u32], wd: usize, n: usize, a: usize)
 }
 
 // The record in a slot of page j goes: later records move down, the last one's words become zero, and page and header count one less.
-pub fn remove_in(pool: &mut [u32], j: usize, slot: usize)
-    requires { ⌜ (domains (now pool) ≤ 4) × ((j < 2 ^ 32) × (slot < 2 ^ 32)) ⌝ }
+pub fn remove_in(pool: &mut [u32], f: Form, j: usize, slot: usize)
+    requires { ⌜ Fit (now pool) f × ((j < 2 ^ 32) × (slot < 2 ^ 32)) ⌝ }
     ensures { λ _. ⌜ now (pool .exit) ≡ removeIn L j slot (now (pool .entry)) ⌝ }
 {
-    let wd = get(pool, 0) + 1;
+    let wd = f.domains + 1;
     let count = get(pool, 4);
     let m = word(pool, j, 1);
-    let a = 32 * j + 4 + slot * wd;
-    let n = less(32 * j + 4 + m * wd, a + wd);
+    let first = 32 * j + 4;
+    let a = first + slot * wd;
+    let n = less(first + m * wd, a + wd);
     move_down(pool, wd, n, a);
     clear(pool, a + n, a + n + wd);
     put(pool, 32 * j + 1, less(m, 1));

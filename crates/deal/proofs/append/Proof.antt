@@ -1,17 +1,11 @@
 -- `deal::append` meets its contract: the entry of wd words at word a of src goes behind the last entry of page c, unless the page ends
 -- there.
-use Rattle.deal.proofs.Laws.{fewer}
 use mathlib.Core.Path.{_∙_}
-use Rattle.deal.proofs.Laws.{append-room, append-full, small, near}
+use Rattle.deal.proofs.Laws.{small, fewer, near, append-room, append-full}
 use borrow.Author.Needs.{needs}
 use native.Mathlib.Omega.{arith}
 use Rattle.deal.proofs.append.Statement.{statement}
 use Rattle.deal.proofs.append.Tie as tie
-use Rattle.deal.proofs.append.Reads as reads
-use Rattle.deal.proofs.append.Lts as lts
-use Rattle.deal.proofs.copy_part.Reads as copy-part-reads
-use Rattle.words.proofs.put.Reads as put-reads
-use Rattle.words.proofs.word.Reads as word-reads
 
 word-requires : tie.Need-word-requires
 word-requires c κs = search needs

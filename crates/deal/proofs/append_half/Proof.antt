@@ -1,21 +1,15 @@
 -- `deal::append_half` meets its contract: one half of the entry at word a of src goes behind the last entry of page c: its word i becomes
 -- x, its child q.
-use Prim.Native.Nat.{_-_, _+_, _*_}
+use Prim.Native.Nat.{_+_, _*_}
 use lib.Seq.{length-take-le}
 use mathlib.Core.Path.{sym, ap, ap₂, _∙_}
 use Rattle.steps.specs.Machine.{appendIn}
 use lib.ListN.{take, drop, length-take, replicate}
-use mathlib.Core.Path.{sym, ap, _∙_}
 use Rattle.deal.proofs.Laws.{half-words}
 use borrow.Author.Needs.{needs}
 use native.Mathlib.Omega.{arith}
 use Rattle.deal.proofs.append_half.Statement.{statement}
 use Rattle.deal.proofs.append_half.Tie as tie
-use Rattle.deal.proofs.append_half.Reads as reads
-use Rattle.deal.proofs.append_half.Lts as lts
-use Rattle.deal.proofs.append.Reads as append-reads
-use Rattle.deal.proofs.half.Reads as half-reads
-use Rattle.deal.proofs.has.Reads as has-reads
 
 slice-aggregate-half : tie.Need-slice-aggregate-half
 slice-aggregate-half c = search needs

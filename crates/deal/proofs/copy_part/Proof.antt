@@ -9,11 +9,6 @@ use borrow.Author.Needs.{needs}
 use native.Mathlib.Omega.{arith}
 use Rattle.deal.proofs.copy_part.Statement.{statement}
 use Rattle.deal.proofs.copy_part.Tie as tie
-use Rattle.deal.proofs.copy_part.Reads as reads
-use Rattle.deal.proofs.copy_part.Lts as lts
-use Rattle.deal.proofs.has.Reads as has-reads
-use Rattle.words.proofs.get.Reads as get-reads
-use Rattle.words.proofs.put.Reads as put-reads
 
 abbrev Inv-loop : tie.InvT-loop
 Inv-loop x₀ at src from count n i₀ x i = (i ≤ n) × (n ≡ length (take count (drop from src))) × (length x ≡ length x₀) × (sets x (at + i) (drop i (take count (drop from src))) ≡ sets x₀ at (take count (drop from src)))

@@ -5,9 +5,6 @@ use mathlib.Core.Path.{ap₂}
 use borrow.Author.Needs.{needs}
 use Rattle.deal.proofs.crosses.Statement.{statement}
 use Rattle.deal.proofs.crosses.Tie as tie
-use Rattle.deal.proofs.crosses.Reads as reads
-use Rattle.deal.proofs.crosses.Lts as lts
-use Rattle.words.proofs.get.Reads as get-reads
 
 add-get : tie.Need-add-get
 add-get c = search needs

@@ -5,10 +5,6 @@ use borrow.Author.Needs.{needs}
 use native.Mathlib.Omega.{arith}
 use Rattle.deal.proofs.deal_both.Statement.{statement}
 use Rattle.deal.proofs.deal_both.Tie as tie
-use Rattle.deal.proofs.deal_both.Reads as reads
-use Rattle.deal.proofs.deal_both.Lts as lts
-use Rattle.deal.proofs.append_half.Reads as append-half-reads
-use Rattle.words.proofs.get.Reads as get-reads
 
 add-append-half : tie.Need-add-append-half
 add-append-half c = search needs

@@ -7,10 +7,6 @@ use borrow.Author.Needs.{needs}
 use native.Mathlib.Omega.{arith}
 use Rattle.deal.proofs.deal_point.Statement.{statement}
 use Rattle.deal.proofs.deal_point.Tie as tie
-use Rattle.deal.proofs.deal_point.Reads as reads
-use Rattle.deal.proofs.deal_point.Lts as lts
-use Rattle.deal.proofs.append.Reads as append-reads
-use Rattle.words.proofs.get.Reads as get-reads
 
 add-get : tie.Need-add-get
 add-get c = search needs

@@ -9,9 +9,6 @@ use borrow.Author.Needs.{needs}
 use native.Mathlib.Omega.{arith}
 use Rattle.deal.proofs.deal_points.Statement.{statement}
 use Rattle.deal.proofs.deal_points.Tie as tie
-use Rattle.deal.proofs.deal_points.Reads as reads
-use Rattle.deal.proofs.deal_points.Lts as lts
-use Rattle.deal.proofs.deal_point.Reads as deal-point-reads
 
 abbrev Inv-loop : tie.InvT-loop
 Inv-loop pool₀ k d x src m j r a₀ i₀ pool a i = (i ≤ m) × (a ≤ 4 + 5 * i) × (length pool ≡ length pool₀) × (pointsIn 32 k d x (m - i) src a j r pool ≡ pointsIn 32 k d x m src 4 j r pool₀)

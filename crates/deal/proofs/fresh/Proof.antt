@@ -4,10 +4,6 @@ use Rattle.deal.proofs.Laws.{fresh-is}
 use borrow.Author.Needs.{needs}
 use Rattle.deal.proofs.fresh.Statement.{statement}
 use Rattle.deal.proofs.fresh.Tie as tie
-use Rattle.deal.proofs.fresh.Reads as reads
-use Rattle.deal.proofs.fresh.Lts as lts
-use Rattle.words.proofs.clear.Reads as clear-reads
-use Rattle.words.proofs.put.Reads as put-reads
 
 mul-clear : tie.Need-mul-clear
 mul-clear c = search needs

@@ -3,10 +3,6 @@ use mathlib.Core.Path.{_∙_}
 use borrow.Author.Needs.{needs}
 use Rattle.deal.proofs.half.Statement.{statement}
 use Rattle.deal.proofs.half.Tie as tie
-use Rattle.deal.proofs.half.Reads as reads
-use Rattle.deal.proofs.half.Lts as lts
-use Rattle.deal.proofs.copy_part.Reads as copy-part-reads
-use Rattle.words.proofs.put.Reads as put-reads
 
 mul-copy-part : tie.Need-mul-copy-part
 mul-copy-part c = search needs

@@ -3,8 +3,6 @@ use Rattle.deal.proofs.Laws.{has-none, has-less, has-all}
 use borrow.Author.Needs.{needs}
 use Rattle.deal.proofs.has.Statement.{statement}
 use Rattle.deal.proofs.has.Tie as tie
-use Rattle.deal.proofs.has.Reads as reads
-use Rattle.deal.proofs.has.Lts as lts
 
 returns : tie.Need-returns
 returns c = has-none (c .before .args .src .now) (c .before .args .from) (c .before .args .count) (c .if1 .taken)

@@ -5,10 +5,6 @@ use borrow.Author.Needs.{needs}
 use native.Mathlib.Omega.{arith}
 use Rattle.deal.proofs.open_pages.Statement.{statement}
 use Rattle.deal.proofs.open_pages.Tie as tie
-use Rattle.deal.proofs.open_pages.Reads as reads
-use Rattle.deal.proofs.open_pages.Lts as lts
-use Rattle.deal.proofs.claim.Reads as claim-reads
-use Rattle.deal.proofs.fresh.Reads as fresh-reads
 
 claim-requires : tie.Need-claim-requires
 claim-requires c κs = search needs

@@ -5,10 +5,6 @@ use borrow.Author.Needs.{needs}
 use native.Mathlib.Omega.{arith}
 use Rattle.deal.proofs.part_points.Statement.{statement}
 use Rattle.deal.proofs.part_points.Tie as tie
-use Rattle.deal.proofs.part_points.Reads as reads
-use Rattle.deal.proofs.part_points.Lts as lts
-use Rattle.deal.proofs.deal_points.Reads as deal-points-reads
-use Rattle.deal.proofs.open_pages.Reads as open-pages-reads
 
 open-pages-requires : tie.Need-open-pages-requires
 open-pages-requires c κs = search needs

@@ -1,11 +1,10 @@
 -- `grow::grow` meets its contract: page j, `level` levels above the point pages, takes the point with its location.
-use Prim.Native.Nat.{_<_, _-_, _+_}
+use Prim.Native.Nat.{ℕ, _<_, _-_}
 use mathlib.Core.Path.{_∙_}
 use Rattle.kdb.specs.Pages.{regionsPer, pointsPer}
 use Rattle.grow.proofs.Laws as laws
 use borrow.Author.Needs.{needs}
 use native.Mathlib.Omega.{arith}
-use Prim.Native.Nat.{ℕ, _<_}
 use borrow.Fn.Kinds.{In}
 use borrow.Fn.PlainCycle.{Measures, is, falls, and}
 use Rattle.grow.proofs.grow.Reads as grow
@@ -19,7 +18,7 @@ use Rattle.grow.proofs.+grow.{statement}
 use Rattle.grow.proofs.+grow.Tie.{close}
 
 abbrev μ-grow : Measures 2 grow-kinds.ps ℕ
-μ-grow κs a = a .1 .1 .1 .0
+μ-grow κs a = a .1 .1 .0
 
 abbrev grow-at : ℕ → In 2 grow-kinds.ps
 grow-at t = and 2 grow-kinds.ps (is 2 grow-kinds.ps μ-grow t) grow.Pre
@@ -31,15 +30,14 @@ abbrev grow-calls : ℕ → grow-lts.Claims
 grow-calls t = (grow-points-reads.Asked, grow-points-reads.Learnt, seek-reads.Asked, seek-reads.Learnt, get-reads.Asked, get-reads.Learnt, grow-below t, grow.Post, widen-reads.Asked, widen-reads.Learnt)
 
 grow-grow-points-requires : (t : ℕ) → grow-lts.Need-grow-points-requires (grow-calls t) (grow-at t) grow.Post
-grow-grow-points-requires t c κs = let p = c .before .before .before .before .pre .1 in
-    (p .0, (p .1 .1 .0, (p .1 .1 .1 .0, p .1 .1 .1 .1)))
+grow-grow-points-requires t c κs = search needs
 
 grow-same-length : (t : ℕ) → grow-lts.Need-same-length (grow-calls t) (grow-at t) grow.Post
 grow-same-length t c = c .before .before .grow-points .kept .0
 
 grow-returns : (t : ℕ) → grow-lts.Need-returns (grow-calls t) (grow-at t) grow.Post
 grow-returns t c = let a = (c .before .before .before .before .before .before .before .args) in
-    (c .before .before .grow-points .ensures .0 ∙ laws.grow-level (a .n) (a .k) (regionsPer 32 (a .k)) (pointsPer 32 (a .k)) (a .level) (a .point .now) (a .location) (a .j) (a .pool .now) (c .before .before .before .before .if1 .taken), c .before .before .grow-points .ensures .1)
+    (c .before .before .grow-points .ensures .0 ∙ laws.grow-level (a .f .pages) (a .f .domains) (regionsPer 32 (a .f .domains)) (pointsPer 32 (a .f .domains)) (a .level) (a .point .now) (a .location) (a .j) (a .pool .now) (c .before .before .before .before .if1 .taken), c .before .before .grow-points .ensures .1)
 
 grow-seek-requires : (t : ℕ) → grow-lts.Need-seek-requires (grow-calls t) (grow-at t) grow.Post
 grow-seek-requires t c κs = search needs
@@ -49,7 +47,7 @@ grow-same-length-2 t c = search needs
 
 grow-returns-2 : (t : ℕ) → grow-lts.Need-returns-2 (grow-calls t) (grow-at t) grow.Post
 grow-returns-2 t c = let a = (c .before .before .before .before .before .before .args) in
-    (laws.grow-lost (a .n) (a .k) (regionsPer 32 (a .k)) (pointsPer 32 (a .k)) (a .level) (a .point .now) (a .location) (a .j) (a .pool .now) (a .level - 1) (c .before .seek .result) (omega arith) (c .before .seek .ensures .0) (c .if2 .taken), record { page = omega arith; domain = omega arith; key = omega arith })
+    (laws.grow-lost (a .f .pages) (a .f .domains) (regionsPer 32 (a .f .domains)) (pointsPer 32 (a .f .domains)) (a .level) (a .point .now) (a .location) (a .j) (a .pool .now) (a .level - 1) (c .before .seek .result) (omega arith) (c .before .seek .ensures .0) (c .if2 .taken), search needs)
 
 grow-sub-grow : (t : ℕ) → grow-lts.Need-sub-grow (grow-calls t) (grow-at t) grow.Post
 grow-sub-grow t c = search needs
@@ -64,32 +62,29 @@ grow-get-requires : (t : ℕ) → grow-lts.Need-get-requires (grow-calls t) (gro
 grow-get-requires t c κs = search needs
 
 grow-grow-requires : (t : ℕ) → grow-lts.Need-grow-requires (grow-calls t) (grow-at t) grow.Post
-grow-grow-requires t c κs = let p = c .before .before .before .before .before .before .before .before .before .pre .1 in
-    (omega arith, (p .0, (p .1 .0, (p .1 .1 .0, (p .1 .1 .1 .0, c .get .ensures .1)))))
+grow-grow-requires t c κs = search needs
 
 grow-same-length-3 : (t : ℕ) → grow-lts.Need-same-length-3 (grow-calls t) (grow-at t) grow.Post
 grow-same-length-3 t c = c .before .before .before .before .grow .kept .0
 
 grow-returns-3 : (t : ℕ) → grow-lts.Need-returns-3 (grow-calls t) (grow-at t) grow.Post
-grow-returns-3 t c = let a = (c .before .before .before .before .before .before .before .before .before .before .before .before .before .before .args) in
+grow-returns-3 t c = let a = (c .before .before .before .before .before .before .before .before .before .before .before .before .before .before .before .args) in
     let q = (rw (c .before .before .before .before .before .get .ensures .0) at (c .before .before .before .before .grow .ensures .0)) in
-    (laws.grow-kept (a .n) (a .k) (regionsPer 32 (a .k)) (pointsPer 32 (a .k)) (a .level) (a .point .now) (a .location) (a .j) (a .pool .now) (a .level - 1) (c .before .before .before .before .before .before .before .before .before .seek .result) (omega arith) (c .before .before .before .before .before .before .before .before .before .seek .ensures .0) (c .before .before .before .before .before .before .before .before .if2 .left) (c .before .before .before .before .grow .result) (c .before .before .before .before .grow .last .0) q (c .if3 .taken), c .before .before .before .before .grow .ensures .1)
+    (laws.grow-kept (a .f .pages) (a .f .domains) (regionsPer 32 (a .f .domains)) (pointsPer 32 (a .f .domains)) (a .level) (a .point .now) (a .location) (a .j) (a .pool .now) (a .level - 1) (c .before .before .before .before .before .before .before .before .before .before .seek .result) (omega arith) (c .before .before .before .before .before .before .before .before .before .before .seek .ensures .0) (c .before .before .before .before .before .before .before .before .before .if2 .left) (c .before .before .before .before .grow .result) (c .before .before .before .before .grow .last .0) q (c .if3 .taken), c .before .before .before .before .grow .ensures .1)
 
 grow-sub-widen : (t : ℕ) → grow-lts.Need-sub-widen (grow-calls t) (grow-at t) grow.Post
 grow-sub-widen t c = search needs
 
 grow-widen-requires : (t : ℕ) → grow-lts.Need-widen-requires (grow-calls t) (grow-at t) grow.Post
-grow-widen-requires t c κs = let p = c .before .before .before .before .before .before .before .before .before .before .before .before .before .before .before .pre .1 in
-    let s = c .before .before .before .before .before .grow .ensures .1 in
-    (p .0, (c .before .before .before .before .before .grow .kept .0 ∙ p .1 .0, (s .domain, (s .key, (omega (arith, s .page, p .0 .most), (c .before .before .before .before .before .before .before .before .before .before .seek .ensures .1, p .1 .1 .1 .1))))))
+grow-widen-requires t c κs = search needs
 
 grow-same-length-4 : (t : ℕ) → grow-lts.Need-same-length-4 (grow-calls t) (grow-at t) grow.Post
 grow-same-length-4 t c = c .before .before .widen .kept .0 ∙ c .before .before .before .before .before .before .before .before .grow .kept .0
 
 grow-returns-4 : (t : ℕ) → grow-lts.Need-returns-4 (grow-calls t) (grow-at t) grow.Post
-grow-returns-4 t c = let a = (c .before .before .before .before .before .before .before .before .before .before .before .before .before .before .before .before .before .before .args) in
+grow-returns-4 t c = let a = (c .before .before .before .before .before .before .before .before .before .before .before .before .before .before .before .before .before .before .before .args) in
     let q = (rw (c .before .before .before .before .before .before .before .before .before .get .ensures .0) at (c .before .before .before .before .before .before .before .before .grow .ensures .0)) in
-    (c .before .before .widen .ensures .0 ∙ laws.grow-wider (a .n) (a .k) (regionsPer 32 (a .k)) (pointsPer 32 (a .k)) (a .level) (a .point .now) (a .location) (a .j) (a .pool .now) (a .level - 1) (c .before .before .before .before .before .before .before .before .before .before .before .before .before .seek .result) (omega arith) (c .before .before .before .before .before .before .before .before .before .before .before .before .before .seek .ensures .0) (c .before .before .before .before .before .before .before .before .before .before .before .before .if2 .left) (c .before .before .before .before .before .before .before .before .grow .result) (c .before .before .before .before .before .before .before .before .grow .last .0) q (c .before .before .before .before .if3 .left), c .before .before .widen .ensures .1)
+    (c .before .before .widen .ensures .0 ∙ laws.grow-wider (a .f .pages) (a .f .domains) (regionsPer 32 (a .f .domains)) (pointsPer 32 (a .f .domains)) (a .level) (a .point .now) (a .location) (a .j) (a .pool .now) (a .level - 1) (c .before .before .before .before .before .before .before .before .before .before .before .before .before .before .seek .result) (omega arith) (c .before .before .before .before .before .before .before .before .before .before .before .before .before .before .seek .ensures .0) (c .before .before .before .before .before .before .before .before .before .before .before .before .before .if2 .left) (c .before .before .before .before .before .before .before .before .grow .result) (c .before .before .before .before .before .before .before .before .grow .last .0) q (c .before .before .before .before .if3 .left), c .before .before .widen .ensures .1)
 
 pub +grow-spec : {M : Type 1} → statement M
 +grow-spec = close μ-grow λ t. grow-lts.spec (grow-calls t)

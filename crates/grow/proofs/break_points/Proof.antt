@@ -7,10 +7,6 @@ use borrow.Author.Needs.{needs}
 use native.Mathlib.Omega.{arith}
 use Rattle.grow.proofs.break_points.Statement.{statement}
 use Rattle.grow.proofs.break_points.Tie as tie
-use Rattle.grow.proofs.break_points.Reads as reads
-use Rattle.grow.proofs.break_points.Lts as lts
-use Rattle.cut.proofs.choose.Reads as choose-reads
-use Rattle.deal.proofs.part_points.Reads as part-points-reads
 
 add-choose : tie.Need-add-choose
 add-choose c = search needs
@@ -19,7 +15,7 @@ choose-requires : tie.Need-choose-requires
 choose-requires c κs = search needs
 
 returns : tie.Need-returns
-returns c = (points-nowhere _ _ 0 0 _ _ _ _ _ (c .before .choose .result) (c .before .choose .ensures .0) (c .if1 .left), record { page = omega arith; domain = omega arith; key = omega arith })
+returns c = (points-nowhere _ _ 0 0 _ _ _ _ _ (c .before .choose .result) (c .before .choose .ensures .0) (c .if1 .left), search needs)
 
 add-part-points : tie.Need-add-part-points
 add-part-points c = search needs
@@ -28,13 +24,13 @@ rem-part-points : tie.Need-rem-part-points
 rem-part-points c = search needs
 
 part-points-requires : tie.Need-part-points-requires
-part-points-requires c κs = (record { least = omega arith; most = omega arith; domains = omega arith; domain = omega arith; key = omega arith }, (omega arith, (omega (arith, mod-lt (c .before .before .before .choose .result .domain + 1) {m = c .before .before .before .before .before .before .args .k} (omega arith)), omega arith)))
+part-points-requires c κs = search (needs, mod-lt (c .before .before .before .choose .result .domain + 1) {m = c .before .before .before .before .before .before .args .f .domains} (omega arith))
 
 same-length : tie.Need-same-length
 same-length c = search needs
 
 returns-2 : tie.Need-returns-2
-returns-2 c = (points-broken _ _ 0 0 _ _ _ _ _ (c .before .before .before .before .before .before .choose .result) (c .before .before .before .before .before .before .choose .ensures .0) (c .before .before .before .before .before .if1 .taken) _ _ (c .before .before .part-points .ensures .0), record { page = c .before .before .part-points .ensures .1; domain = c .before .before .before .before .before .before .choose .ensures .1 .domain; key = c .before .before .before .before .before .before .choose .ensures .1 .key })
+returns-2 c = (points-broken _ _ 0 0 _ _ _ _ _ (c .before .before .before .before .before .before .choose .result) (c .before .before .before .before .before .before .choose .ensures .0) (c .before .before .before .before .before .if1 .taken) _ _ (c .before .before .part-points .ensures .0), search needs)
 
 pub break-points-spec : {M : Type 1} → statement M
 break-points-spec =

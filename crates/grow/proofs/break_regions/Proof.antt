@@ -6,10 +6,6 @@ use borrow.Author.Needs.{needs}
 use native.Mathlib.Omega.{arith}
 use Rattle.grow.proofs.break_regions.Statement.{statement}
 use Rattle.grow.proofs.break_regions.Tie as tie
-use Rattle.grow.proofs.break_regions.Reads as reads
-use Rattle.grow.proofs.break_regions.Lts as lts
-use Rattle.cut.proofs.choose.Reads as choose-reads
-use Rattle.split.proofs.part_regions.Reads as part-regions-reads
 
 mul-choose : tie.Need-mul-choose
 mul-choose c = search needs
@@ -21,7 +17,7 @@ choose-requires : tie.Need-choose-requires
 choose-requires c κs = search needs
 
 returns : tie.Need-returns
-returns c = (regions-nowhere _ _ 0 0 _ _ _ _ _ (c .before .choose .result) (c .before .choose .ensures .0) (c .before .before .before .before .args .level) (c .if1 .left), record { page = omega arith; domain = omega arith; key = omega arith })
+returns c = (regions-nowhere _ _ 0 0 _ _ _ _ _ (c .before .choose .result) (c .before .choose .ensures .0) (c .before .before .before .before .args .level) (c .if1 .left), search needs)
 
 add-part-regions : tie.Need-add-part-regions
 add-part-regions c = search needs
@@ -30,13 +26,13 @@ rem-part-regions : tie.Need-rem-part-regions
 rem-part-regions c = search needs
 
 part-regions-requires : tie.Need-part-regions-requires
-part-regions-requires c κs = (record { least = omega arith; most = omega arith; domains = omega arith; domain = omega arith; key = omega arith }, (omega arith, (omega arith, (omega (arith, mod-lt (c .before .before .before .choose .result .domain + 1) {m = c .before .before .before .before .before .before .args .k} (omega arith)), omega arith))))
+part-regions-requires c κs = search (needs, mod-lt (c .before .before .before .choose .result .domain + 1) {m = c .before .before .before .before .before .before .args .f .domains} (omega arith))
 
 same-length : tie.Need-same-length
 same-length c = search needs
 
 returns-2 : tie.Need-returns-2
-returns-2 c = (regions-broken _ _ 0 0 _ _ _ _ _ (c .before .before .before .before .before .before .choose .result) (c .before .before .before .before .before .before .choose .ensures .0) (c .before .before .before .before .before .before .before .before .before .args .level) (c .before .before .before .before .before .if1 .taken) _ _ (c .before .before .part-regions .ensures .0), record { page = c .before .before .part-regions .ensures .1; domain = c .before .before .before .before .before .before .choose .ensures .1 .domain; key = c .before .before .before .before .before .before .choose .ensures .1 .key })
+returns-2 c = (regions-broken _ _ 0 0 _ _ _ _ _ (c .before .before .before .before .before .before .choose .result) (c .before .before .before .before .before .before .choose .ensures .0) (c .before .before .before .before .before .before .before .before .before .args .level) (c .before .before .before .before .before .if1 .taken) _ _ (c .before .before .part-regions .ensures .0), search needs)
 
 pub break-regions-spec : {M : Type 1} → statement M
 break-regions-spec =

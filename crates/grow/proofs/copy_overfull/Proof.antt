@@ -9,10 +9,6 @@ use borrow.Author.Needs.{needs}
 use native.Mathlib.Omega.{arith}
 use Rattle.grow.proofs.copy_overfull.Statement.{statement}
 use Rattle.grow.proofs.copy_overfull.Tie as tie
-use Rattle.grow.proofs.copy_overfull.Reads as reads
-use Rattle.grow.proofs.copy_overfull.Lts as lts
-use Rattle.deal.proofs.copy_part.Reads as copy-part-reads
-use Rattle.words.proofs.word.Reads as word-reads
 
 mul-copy-part : tie.Need-mul-copy-part
 mul-copy-part c = search needs

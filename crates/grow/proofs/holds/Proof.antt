@@ -4,9 +4,6 @@ use borrow.Author.Needs.{needs}
 use native.Mathlib.Omega.{arith}
 use Rattle.grow.proofs.holds.Statement.{statement}
 use Rattle.grow.proofs.holds.Tie as tie
-use Rattle.grow.proofs.holds.Reads as reads
-use Rattle.grow.proofs.holds.Lts as lts
-use Rattle.boxes.proofs.point_in.Reads as point-in-reads
 
 mul-if1 : tie.Need-mul-if1
 mul-if1 c = search needs

@@ -9,16 +9,12 @@ use borrow.Author.Needs.{needs}
 use native.Mathlib.Omega.{arith}
 use Rattle.grow.proofs.seek.Statement.{statement}
 use Rattle.grow.proofs.seek.Tie as tie
-use Rattle.grow.proofs.seek.Reads as reads
-use Rattle.grow.proofs.seek.Lts as lts
-use Rattle.grow.proofs.holds.Reads as holds-reads
-use Rattle.words.proofs.word.Reads as word-reads
 
 abbrev Inv-loop : tie.InvT-loop
-Inv-loop pool k point j m a₀ i₀ a i = (i ≤ m) × (m < 2 ^ 32) × (a ≤ 32 * j + 4 + 9 * i) × (seekIn k point (m - i) pool a ≡ seekIn k point (word 32 pool j 1) pool (32 * j + 4))
+Inv-loop pool f point j m a₀ i₀ a i = (i ≤ m) × (m < 2 ^ 32) × (a ≤ 32 * j + 4 + 9 * i) × (seekIn (f .domains) point (m - i) pool a ≡ seekIn (f .domains) point (word 32 pool j 1) pool (32 * j + 4))
 
 abbrev μ-loop : tie.MeasureT-loop
-μ-loop pool k point j m a₀ i₀ a i = m - i
+μ-loop pool f point j m a₀ i₀ a i = m - i
 
 word-requires : tie.Need-word-requires Inv-loop μ-loop
 word-requires c κs = search needs
@@ -54,7 +50,7 @@ loop-less : tie.Need-loop-less Inv-loop μ-loop
 loop-less c = search needs
 
 loop-again : tie.Need-loop-again Inv-loop μ-loop
-loop-again c = (omega arith, omega arith, omega arith, seek-next _ _ _ _ _ _ _ (c .before .before .before .loop .inv .3) (c .before .before .loop-test .taken) (sym (c .before .holds .ensures) ∙ c .if1 .left))
+loop-again c = (omega arith, omega arith, omega arith, seek-next _ _ _ _ _ _ _ (c .before .before .before .before .loop .inv .3) (c .before .before .before .loop-test .taken) (sym (c .before .before .holds .ensures) ∙ c .before .if1 .left))
 
 returns-2 : tie.Need-returns-2 Inv-loop μ-loop
 returns-2 c = (seek-end _ _ _ _ _ _ _ (c .before .loop .inv .3) (c .loop-test .left), omega arith)

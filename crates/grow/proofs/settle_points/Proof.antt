@@ -6,20 +6,13 @@ use Rattle.steps.specs.Grow.{breakPoints}
 use Rattle.kdb.specs.Pages.{regionsPer, pointsPer}
 use Rattle.kdb.specs.Cut.{choose}
 use Rattle.cut.specs.Keys.{keysIn}
-use Rattle.grow.proofs.Laws.{few-points}
+use Rattle.grow.proofs.Laws.{few-points, points-room, points-full, points-over, over-words}
 use mathlib.Core.Path.{sym, ap, _∙_}
 use lib.Seq.{length-take-le}
-use Rattle.grow.proofs.Laws.{points-room, points-full, points-over, over-words}
 use borrow.Author.Needs.{needs}
 use native.Mathlib.Omega.{arith}
 use Rattle.grow.proofs.settle_points.Statement.{statement}
 use Rattle.grow.proofs.settle_points.Tie as tie
-use Rattle.grow.proofs.settle_points.Reads as reads
-use Rattle.grow.proofs.settle_points.Lts as lts
-use Rattle.grow.proofs.break_points.Reads as break-points-reads
-use Rattle.grow.proofs.copy_overfull.Reads as copy-overfull-reads
-use Rattle.deal.proofs.append.Reads as append-reads
-use Rattle.words.proofs.points_per.Reads as points-per-reads
 
 points-per-requires : tie.Need-points-per-requires
 points-per-requires c κs = search needs
@@ -36,7 +29,7 @@ same-length c = search needs
 returns : tie.Need-returns
 returns c = let a = (c .before .before .before .before .before .before .before .before .args) in
     let p = c .before .before .before .before .before .points-per .ensures in
-    (rw (c .before .before .append .ensures) (points-room (a .n) (a .k) (a .m) (a .e) (a .entry .now) (a .j) (a .pool .now) (omega (arith, p, c .before .before .before .before .if1 .taken)) (omega arith)), record { page = omega arith; domain = omega arith; key = omega arith })
+    (rw (c .before .before .append .ensures) (points-room (a .f .pages) (a .f .domains) (a .m) (a .e) (a .entry .now) (a .j) (a .pool .now) (omega (arith, p, c .before .before .before .before .if1 .taken)) (omega arith)), search needs)
 
 slice-aggregate-copy-overfull : tie.Need-slice-aggregate-copy-overfull
 slice-aggregate-copy-overfull c = search needs
@@ -60,7 +53,8 @@ add-break-points : tie.Need-add-break-points
 add-break-points c = search needs
 
 break-points-requires : tie.Need-break-points-requires
-break-points-requires c κs = (c .before .before .before .before .before .before .before .before .before .before .before .pre .0, (record { least = omega arith; most = omega arith; words = omega arith; some = omega arith; few = omega (arith, few-points (c .before .before .before .before .before .before .before .before .before .before .before .args .m) (c .before .before .before .before .before .before .before .before .before .before .before .args .k) (c .before .before .before .before .before .before .if2 .taken ∙ c .before .before .before .before .before .before .before .before .points-per .ensures) (omega arith)) }, (omega arith, omega arith)))
+break-points-requires c κs = let a = (c .before .before .before .before .before .before .before .before .before .before .before .args) in
+    search (needs, few-points (a .m) (a .f .domains) (c .before .before .before .before .before .before .if2 .taken ∙ c .before .before .before .before .before .before .before .before .points-per .ensures) (omega arith))
 
 same-length-2 : tie.Need-same-length-2
 same-length-2 c = search needs
@@ -68,14 +62,14 @@ same-length-2 c = search needs
 returns-2 : tie.Need-returns-2
 returns-2 c = let a = (c .before .before .before .before .before .before .before .before .before .before .before .before .before .before .args) in
     let o = c .before .before .before .before .before .before .copy-overfull .ensures in
-    let w = over-words (a .k + 1) (a .pool .now) (a .j) (a .entry .now) (33 + a .k) (omega arith) (omega arith) in
-    let s = ap (λ l. breakPoints 32 (a .n) (a .k) (regionsPer 32 (a .k)) (pointsPer 32 (a .k)) (choose (a .k) (a .k) (a .e) (keysIn (a .k) (a .k + 1) (a .m + 1) l)) l (a .m + 1) (a .j) (a .pool .now)) (ap (take (33 + a .k)) o ∙ w) in
-    (c .before .before .break-points .ensures .0 ∙ s ∙ points-full (a .n) (a .k) (a .m) (a .e) (a .entry .now) (a .j) (a .pool .now) (c .before .before .before .before .before .before .before .before .before .if2 .taken ∙ c .before .before .before .before .before .before .before .before .before .before .before .points-per .ensures), c .before .before .break-points .ensures .1)
+    let w = over-words (a .f .domains + 1) (a .pool .now) (a .j) (a .entry .now) (33 + a .f .domains) (omega arith) (omega arith) in
+    let s = ap (λ l. breakPoints 32 (a .f .pages) (a .f .domains) (regionsPer 32 (a .f .domains)) (pointsPer 32 (a .f .domains)) (choose (a .f .domains) (a .f .domains) (a .e) (keysIn (a .f .domains) (a .f .domains + 1) (a .m + 1) l)) l (a .m + 1) (a .j) (a .pool .now)) (ap (take (33 + a .f .domains)) o ∙ w) in
+    (c .before .before .break-points .ensures .0 ∙ s ∙ points-full (a .f .pages) (a .f .domains) (a .m) (a .e) (a .entry .now) (a .j) (a .pool .now) (c .before .before .before .before .before .before .before .before .before .if2 .taken ∙ c .before .before .before .before .before .before .before .before .before .before .before .points-per .ensures), c .before .before .break-points .ensures .1)
 
 returns-3 : tie.Need-returns-3
 returns-3 c = let a = (c .before .before .before .before .before .args) in
     let p = c .before .before .points-per .ensures in
-    (points-over (a .n) (a .k) (a .m) (a .e) (a .entry .now) (a .j) (a .pool .now) (omega (arith, p, c .before .if1 .left)) (λ z. c .if2 .left (z ∙ sym p)), record { page = omega arith; domain = omega arith; key = omega arith })
+    (points-over (a .f .pages) (a .f .domains) (a .m) (a .e) (a .entry .now) (a .j) (a .pool .now) (omega (arith, p, c .before .if1 .left)) (λ z. c .if2 .left (z ∙ sym p)), search needs)
 
 pub settle-points-spec : {M : Type 1} → statement M
 settle-points-spec =

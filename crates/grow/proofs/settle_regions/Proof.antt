@@ -5,20 +5,13 @@ use Rattle.steps.specs.Grow.{breakRegions}
 use Rattle.kdb.specs.Pages.{regionsPer, pointsPer}
 use Rattle.kdb.specs.Cut.{choose}
 use Rattle.cut.specs.Keys.{keysIn}
-use Rattle.grow.proofs.Laws.{few-regions}
+use Rattle.grow.proofs.Laws.{few-regions, regions-room, regions-full, regions-over, over-words}
 use mathlib.Core.Path.{sym, ap, _∙_}
 use lib.Seq.{length-take-le}
-use Rattle.grow.proofs.Laws.{regions-room, regions-full, regions-over, over-words}
 use borrow.Author.Needs.{needs}
 use native.Mathlib.Omega.{arith}
 use Rattle.grow.proofs.settle_regions.Statement.{statement}
 use Rattle.grow.proofs.settle_regions.Tie as tie
-use Rattle.grow.proofs.settle_regions.Reads as reads
-use Rattle.grow.proofs.settle_regions.Lts as lts
-use Rattle.grow.proofs.break_regions.Reads as break-regions-reads
-use Rattle.grow.proofs.copy_overfull.Reads as copy-overfull-reads
-use Rattle.deal.proofs.append.Reads as append-reads
-use Rattle.words.proofs.regions_per.Reads as regions-per-reads
 
 regions-per-requires : tie.Need-regions-per-requires
 regions-per-requires c κs = search needs
@@ -38,7 +31,7 @@ same-length c = search needs
 returns : tie.Need-returns
 returns c = let a = (c .before .before .before .before .before .before .before .before .args) in
     let p = c .before .before .before .before .before .regions-per .ensures in
-    (rw (c .before .before .append .ensures) (regions-room (a .n) (a .k) (a .level) (a .m) (a .e) (a .entry .now) (a .j) (a .pool .now) (omega (arith, p, c .before .before .before .before .if1 .taken)) (omega arith)), record { page = omega arith; domain = omega arith; key = omega arith })
+    (rw (c .before .before .append .ensures) (regions-room (a .f .pages) (a .f .domains) (a .level) (a .m) (a .e) (a .entry .now) (a .j) (a .pool .now) (omega (arith, p, c .before .before .before .before .if1 .taken)) (omega arith)), search needs)
 
 slice-aggregate-copy-overfull : tie.Need-slice-aggregate-copy-overfull
 slice-aggregate-copy-overfull c = search needs
@@ -68,7 +61,8 @@ add-break-regions : tie.Need-add-break-regions
 add-break-regions c = search needs
 
 break-regions-requires : tie.Need-break-regions-requires
-break-regions-requires c κs = (c .before .before .before .before .before .before .before .before .before .before .before .pre .0, (c .before .before .before .before .before .before .before .before .before .before .before .pre .1 .0, (record { least = omega arith; most = omega arith; words = omega arith; some = omega arith; few = omega (arith, few-regions (c .before .before .before .before .before .before .before .before .before .before .before .args .m) (c .before .before .before .before .before .before .before .before .before .before .before .args .k) (c .before .before .before .before .before .before .if2 .taken ∙ c .before .before .before .before .before .before .before .before .regions-per .ensures) (omega arith)) }, (omega arith, omega arith))))
+break-regions-requires c κs = let a = (c .before .before .before .before .before .before .before .before .before .before .before .args) in
+    search (needs, few-regions (a .m) (a .f .domains) (c .before .before .before .before .before .before .if2 .taken ∙ c .before .before .before .before .before .before .before .before .regions-per .ensures) (omega arith))
 
 same-length-2 : tie.Need-same-length-2
 same-length-2 c = search needs
@@ -76,14 +70,14 @@ same-length-2 c = search needs
 returns-2 : tie.Need-returns-2
 returns-2 c = let a = (c .before .before .before .before .before .before .before .before .before .before .before .before .before .before .args) in
     let o = c .before .before .before .before .before .before .copy-overfull .ensures in
-    let w = over-words (2 * a .k + 1) (a .pool .now) (a .j) (a .entry .now) (33 + 2 * a .k) (omega arith) (omega arith) in
-    let s = ap (λ l. breakRegions 32 (a .n) (a .k) (regionsPer 32 (a .k)) (pointsPer 32 (a .k)) (a .level) (choose (a .k) (a .k) (a .e) (keysIn (a .k) (2 * a .k + 1) (a .m + 1) l)) l (a .m + 1) (a .j) (a .pool .now)) (ap (take (33 + 2 * a .k)) o ∙ w) in
-    (c .before .before .break-regions .ensures .0 ∙ s ∙ regions-full (a .n) (a .k) (a .level) (a .m) (a .e) (a .entry .now) (a .j) (a .pool .now) (c .before .before .before .before .before .before .before .before .before .if2 .taken ∙ c .before .before .before .before .before .before .before .before .before .before .before .regions-per .ensures), c .before .before .break-regions .ensures .1)
+    let w = over-words (2 * a .f .domains + 1) (a .pool .now) (a .j) (a .entry .now) (33 + 2 * a .f .domains) (omega arith) (omega arith) in
+    let s = ap (λ l. breakRegions 32 (a .f .pages) (a .f .domains) (regionsPer 32 (a .f .domains)) (pointsPer 32 (a .f .domains)) (a .level) (choose (a .f .domains) (a .f .domains) (a .e) (keysIn (a .f .domains) (2 * a .f .domains + 1) (a .m + 1) l)) l (a .m + 1) (a .j) (a .pool .now)) (ap (take (33 + 2 * a .f .domains)) o ∙ w) in
+    (c .before .before .break-regions .ensures .0 ∙ s ∙ regions-full (a .f .pages) (a .f .domains) (a .level) (a .m) (a .e) (a .entry .now) (a .j) (a .pool .now) (c .before .before .before .before .before .before .before .before .before .if2 .taken ∙ c .before .before .before .before .before .before .before .before .before .before .before .regions-per .ensures), c .before .before .break-regions .ensures .1)
 
 returns-3 : tie.Need-returns-3
 returns-3 c = let a = (c .before .before .before .before .before .args) in
     let p = c .before .before .regions-per .ensures in
-    (regions-over (a .n) (a .k) (a .level) (a .m) (a .e) (a .entry .now) (a .j) (a .pool .now) (omega (arith, p, c .before .if1 .left)) (λ z. c .if2 .left (z ∙ sym p)), record { page = omega arith; domain = omega arith; key = omega arith })
+    (regions-over (a .f .pages) (a .f .domains) (a .level) (a .m) (a .e) (a .entry .now) (a .j) (a .pool .now) (omega (arith, p, c .before .if1 .left)) (λ z. c .if2 .left (z ∙ sym p)), search needs)
 
 pub settle-regions-spec : {M : Type 1} → statement M
 settle-regions-spec =

@@ -12,13 +12,6 @@ use borrow.Author.Needs.{needs}
 use native.Mathlib.Omega.{arith}
 use Rattle.grow.proofs.widen.Statement.{statement}
 use Rattle.grow.proofs.widen.Tie as tie
-use Rattle.grow.proofs.widen.Reads as reads
-use Rattle.grow.proofs.widen.Lts as lts
-use Rattle.grow.proofs.settle_regions.Reads as settle-regions-reads
-use Rattle.deal.proofs.half.Reads as half-reads
-use Rattle.deal.proofs.has.Reads as has-reads
-use Rattle.words.proofs.put.Reads as put-reads
-use Rattle.words.proofs.word.Reads as word-reads
 
 word-requires : tie.Need-word-requires
 word-requires c κs = search needs
@@ -52,23 +45,23 @@ put-requires c κs = search needs
 
 array-share-prefix-entry : tie.Need-array-share-prefix-entry
 array-share-prefix-entry c = let a = (c .before .before .before .before .before .before .before .before .before .before .before .before .before .before .before .before .args) in
-    omega (arith, c .before .before .before .before .before .has .ensures, length-take (2 * a .k + 1) (drop (a .a) (a .pool .now)), c .before .before .before .before .before .before .before .before .half .kept .0, c .before .before .before .before .before .before .before .before .before .before .before .before .before .before .before .before .pre .0 .few)
+    omega (arith, c .before .before .before .before .before .has .ensures, length-take (2 * a .f .domains + 1) (drop (a .a) (a .pool .now)), c .before .before .before .before .before .before .before .before .half .kept .0, c .before .before .before .before .before .before .before .before .before .before .before .before .before .before .before .before .pre .0 .few)
 
 slice-aggregate-settle-regions : tie.Need-slice-aggregate-settle-regions
 slice-aggregate-settle-regions c = let a = (c .before .before .before .before .before .before .before .before .before .before .before .before .before .before .before .before .before .args) in
-    sym (length-take-le _ _ (omega (arith, c .before .before .before .before .before .before .has .ensures, length-take (2 * a .k + 1) (drop (a .a) (a .pool .now)), c .before .before .before .before .before .before .before .before .before .half .kept .0, c .before .before .before .before .before .before .before .before .before .before .before .before .before .before .before .before .before .pre .0 .few)))
+    sym (length-take-le _ _ (omega (arith, c .before .before .before .before .before .before .has .ensures, length-take (2 * a .f .domains + 1) (drop (a .a) (a .pool .now)), c .before .before .before .before .before .before .before .before .before .half .kept .0, c .before .before .before .before .before .before .before .before .before .before .before .before .before .before .before .before .before .pre .0 .few)))
 
 settle-regions-requires : tie.Need-settle-regions-requires
 settle-regions-requires c κs = let a = (c .before .before .before .before .before .before .before .before .before .before .before .before .before .before .before .before .before .args) in
-    (c .before .before .before .before .before .before .before .before .before .before .before .before .before .before .before .before .before .pre .0, (c .before .before .before .before .put .kept .0 ∙ c .before .before .before .before .before .before .before .before .before .before .before .before .before .before .before .before .before .pre .1 .0, (c .before .before .before .before .before .before .before .before .before .before .before .before .before .before .word .ensures .1, (c .before .before .before .before .before .before .before .before .before .before .before .before .word2 .ensures .1, (omega (arith, length-take (c .before .before .before .before .before .before .has .result) (c .before .before .before .before .before .before .before .before .before .half .last .0), c .before .before .before .before .before .before .has .ensures, length-take (2 * a .k + 1) (drop (a .a) (a .pool .now))), c .before .before .before .before .before .before .before .before .before .before .before .before .before .before .before .before .before .pre .1 .1 .1 .1 .1 .1)))))
+    search (needs, length-take (c .before .before .before .before .before .before .has .result) (c .before .before .before .before .before .before .before .before .before .half .last .0), length-take (2 * a .f .domains + 1) (drop (a .a) (a .pool .now)))
 
 same-length : tie.Need-same-length
 same-length c = search needs
 
 returns : tie.Need-returns
 returns c = let a = (c .before .before .before .before .before .before .before .before .before .before .before .before .before .before .before .before .before .before .before .before .args) in
-    let u = ap₂ take (c .before .before .before .before .before .before .before .before .before .has .ensures) (c .before .before .before .before .before .before .before .before .before .before .before .before .half .ensures) ∙ half-take (a .k) (a .pool .now) (a .a) (a .d) (a .x) (a .r) (replicate 9 0) (omega (arith, c .before .before .before .before .before .before .before .before .before .before .before .before .before .before .before .before .before .before .before .before .pre .0 .few)) in
-    (c .before .before .settle-regions .ensures .0 ∙ (rw (c .before .before .before .before .before .before .before .put .ensures, c .before .before .before .before .before .before .before .before .before .before .before .before .before .before .before .before .before .word .ensures .0, c .before .before .before .before .before .before .before .before .before .before .before .before .before .before .before .word2 .ensures .0) (ap (λ l. settleRegions (a .n) (a .k) (a .level) (word 32 (a .pool .now) (a .j) 1) (word 32 (a .pool .now) (a .j) 2) l (a .j) (set (a .pool .now) (a .a + a .k + a .d) (a .x))) u)) ∙ widen-is (a .n) (a .k) (a .level) (a .d) (a .x) (a .r) (a .a) (a .j) (a .pool .now), c .before .before .settle-regions .ensures .1)
+    let u = ap₂ take (c .before .before .before .before .before .before .before .before .before .has .ensures) (c .before .before .before .before .before .before .before .before .before .before .before .before .half .ensures) ∙ half-take (a .f .domains) (a .pool .now) (a .a) (a .d) (a .x) (a .r) (replicate 9 0) (omega (arith, c .before .before .before .before .before .before .before .before .before .before .before .before .before .before .before .before .before .before .before .before .pre .0 .few)) in
+    (c .before .before .settle-regions .ensures .0 ∙ (rw (c .before .before .before .before .before .before .before .put .ensures, c .before .before .before .before .before .before .before .before .before .before .before .before .before .before .before .before .before .word .ensures .0, c .before .before .before .before .before .before .before .before .before .before .before .before .before .before .before .word2 .ensures .0) (ap (λ l. settleRegions (a .f .pages) (a .f .domains) (a .level) (word 32 (a .pool .now) (a .j) 1) (word 32 (a .pool .now) (a .j) 2) l (a .j) (set (a .pool .now) (a .a + a .f .domains + a .d) (a .x))) u)) ∙ widen-is (a .f .pages) (a .f .domains) (a .level) (a .d) (a .x) (a .r) (a .a) (a .j) (a .pool .now), c .before .before .settle-regions .ensures .1)
 
 pub widen-spec : {M : Type 1} → statement M
 widen-spec =

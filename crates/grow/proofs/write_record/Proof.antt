@@ -6,10 +6,6 @@ use borrow.Author.Needs.{needs}
 use native.Mathlib.Omega.{arith}
 use Rattle.grow.proofs.write_record.Statement.{statement}
 use Rattle.grow.proofs.write_record.Tie as tie
-use Rattle.grow.proofs.write_record.Reads as reads
-use Rattle.grow.proofs.write_record.Lts as lts
-use Rattle.deal.proofs.copy_part.Reads as copy-part-reads
-use Rattle.words.proofs.put.Reads as put-reads
 
 copy-part-requires : tie.Need-copy-part-requires
 copy-part-requires c κs = search needs

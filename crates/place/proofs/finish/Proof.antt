@@ -4,10 +4,6 @@ use Rattle.place.proofs.Laws.{topped-root, topped-fine, topped-short}
 use borrow.Author.Needs.{needs}
 use Rattle.place.proofs.finish.Statement.{statement}
 use Rattle.place.proofs.finish.Tie as tie
-use Rattle.place.proofs.finish.Reads as reads
-use Rattle.place.proofs.finish.Lts as lts
-use Rattle.place.proofs.new_root.Reads as new-root-reads
-use Rattle.place.proofs.write_header.Reads as write-header-reads
 
 new-root-requires : tie.Need-new-root-requires
 new-root-requires c κs = search needs
@@ -17,7 +13,7 @@ same-length c = search needs
 
 returns : tie.Need-returns
 returns c = let a = (c .before .before .before .before .before .before .args) in
-    c .before .before .new-root .ensures ∙ topped-root (a .n) (a .k) (a .root) (a .levels) (a .count) (a .g) (a .pool .now) (c .before .before .before .before .if1 .taken)
+    c .before .before .new-root .ensures ∙ topped-root (a .f .pages) (a .f .domains) (a .root) (a .levels) (a .count) (a .g) (a .pool .now) (c .before .before .before .before .if1 .taken)
 
 add-write-header : tie.Need-add-write-header
 add-write-header c = search needs
@@ -30,11 +26,11 @@ same-length-2 c = search needs
 
 returns-2 : tie.Need-returns-2
 returns-2 c = let a = (c .before .before .before .before .before .before .before .args) in
-    rw (c .before .before .write-header .ensures) (topped-fine (a .n) (a .k) (a .root) (a .levels) (a .count) (a .g) (a .pool .now) (c .before .before .before .before .before .if1 .left) (c .before .before .before .before .if2 .taken))
+    rw (c .before .before .write-header .ensures) (topped-fine (a .f .pages) (a .f .domains) (a .root) (a .levels) (a .count) (a .g) (a .pool .now) (c .before .before .before .before .before .if1 .left) (c .before .before .before .before .if2 .taken))
 
 returns-3 : tie.Need-returns-3
 returns-3 c = let a = (c .before .before .before .args) in
-    topped-short (a .n) (a .k) (a .root) (a .levels) (a .count) (a .g) (a .pool .now) (c .before .if1 .left) (c .if2 .left)
+    topped-short (a .f .pages) (a .f .domains) (a .root) (a .levels) (a .count) (a .g) (a .pool .now) (c .before .if1 .left) (c .if2 .left)
 
 pub finish-spec : {M : Type 1} → statement M
 finish-spec =

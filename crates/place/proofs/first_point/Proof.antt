@@ -14,12 +14,6 @@ use borrow.Author.Needs.{needs}
 use native.Mathlib.Omega.{arith}
 use Rattle.place.proofs.first_point.Statement.{statement}
 use Rattle.place.proofs.first_point.Tie as tie
-use Rattle.place.proofs.first_point.Reads as reads
-use Rattle.place.proofs.first_point.Lts as lts
-use Rattle.grow.proofs.write_record.Reads as write-record-reads
-use Rattle.place.proofs.write_header.Reads as write-header-reads
-use Rattle.deal.proofs.append.Reads as append-reads
-use Rattle.deal.proofs.claim.Reads as claim-reads
 
 claim-requires : tie.Need-claim-requires
 claim-requires c κs = search needs
@@ -61,9 +55,9 @@ returns-2 : tie.Need-returns-2
 returns-2 c = let a = (c .before .before .before .before .before .before .before .before .before .before .before .before .before .before .before .before .before .before .before .args) in
     let p = a .point .now in
     let l = a .location in
-    let u = ap (take (a .k + 1)) (c .before .before .before .before .before .before .before .before .before .before .write-record .ensures) ∙ record-words (a .k) p l (omega (arith, (c .before .before .before .before .before .before .before .before .before .before .before .before .before .before .before .before .before .before .before .pre))) (omega (arith, (c .before .before .before .before .before .before .before .before .before .before .before .before .before .before .before .before .before .before .before .pre))) in
-    let t = ap (take (a .k + 1)) u ∙ take-all (a .k + 1) (p ++ (l ∷ [])) (omega (arith, length-append p (l ∷ []), (c .before .before .before .before .before .before .before .before .before .before .before .before .before .before .before .before .before .before .before .pre))) in
-    (rw (c .before .before .write-header .ensures, c .before .before .before .before .before .before .append .ensures) (ap (λ s. passed true (headIn (appendIn 32 (a .k + 1) (c .before .before .before .before .before .before .before .before .before .before .before .before .before .before .before .claim .last .0) (c .before .before .before .before .before .before .before .before .before .before .before .before .before .before .before .claim .result) s) (c .before .before .before .before .before .before .before .before .before .before .before .before .before .before .before .claim .result) 1 1)) t)) ∙ first-some (a .n) (a .k) p l (a .pool .now) (c .before .before .before .before .before .before .before .before .before .before .before .before .before .before .before .claim .last .0) (c .before .before .before .before .before .before .before .before .before .before .before .before .before .before .before .claim .result) (c .before .before .before .before .before .before .before .before .before .before .before .before .before .before .before .claim .ensures .0) (c .before .before .before .before .before .before .before .before .before .before .before .before .if1 .left)
+    let u = ap (take (a .f .domains + 1)) (c .before .before .before .before .before .before .before .before .before .before .write-record .ensures) ∙ record-words (a .f .domains) p l (omega (arith, (c .before .before .before .before .before .before .before .before .before .before .before .before .before .before .before .before .before .before .before .pre))) (omega (arith, (c .before .before .before .before .before .before .before .before .before .before .before .before .before .before .before .before .before .before .before .pre))) in
+    let t = ap (take (a .f .domains + 1)) u ∙ take-all (a .f .domains + 1) (p ++ (l ∷ [])) (omega (arith, length-append p (l ∷ []), (c .before .before .before .before .before .before .before .before .before .before .before .before .before .before .before .before .before .before .before .pre))) in
+    (rw (c .before .before .write-header .ensures, c .before .before .before .before .before .before .append .ensures) (ap (λ s. passed true (headIn (appendIn 32 (a .f .domains + 1) (c .before .before .before .before .before .before .before .before .before .before .before .before .before .before .before .claim .last .0) (c .before .before .before .before .before .before .before .before .before .before .before .before .before .before .before .claim .result) s) (c .before .before .before .before .before .before .before .before .before .before .before .before .before .before .before .claim .result) 1 1)) t)) ∙ first-some (a .f .pages) (a .f .domains) p l (a .pool .now) (c .before .before .before .before .before .before .before .before .before .before .before .before .before .before .before .claim .last .0) (c .before .before .before .before .before .before .before .before .before .before .before .before .before .before .before .claim .result) (c .before .before .before .before .before .before .before .before .before .before .before .before .before .before .before .claim .ensures .0) (c .before .before .before .before .before .before .before .before .before .before .before .before .if1 .left)
 
 pub first-point-spec : {M : Type 1} → statement M
 first-point-spec =

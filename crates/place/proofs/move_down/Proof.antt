@@ -9,10 +9,6 @@ use borrow.Author.Needs.{needs}
 use native.Mathlib.Omega.{arith}
 use Rattle.place.proofs.move_down.Statement.{statement}
 use Rattle.place.proofs.move_down.Tie as tie
-use Rattle.place.proofs.move_down.Reads as reads
-use Rattle.place.proofs.move_down.Lts as lts
-use Rattle.words.proofs.get.Reads as get-reads
-use Rattle.words.proofs.put.Reads as put-reads
 
 abbrev Inv-loop : tie.InvT-loop
 Inv-loop pool₀ wd n a at₀ i₀ pool at i = (i ≤ n) × (at ≡ a + i) × (length pool ≡ length pool₀) × (downIn wd (n - i) pool at ≡ downIn wd n pool₀ a)

@@ -10,11 +10,6 @@ use borrow.Author.Needs.{needs}
 use native.Mathlib.Omega.{arith}
 use Rattle.place.proofs.new_root.Statement.{statement}
 use Rattle.place.proofs.new_root.Tie as tie
-use Rattle.place.proofs.new_root.Reads as reads
-use Rattle.place.proofs.new_root.Lts as lts
-use Rattle.place.proofs.write_header.Reads as write-header-reads
-use Rattle.deal.proofs.append_half.Reads as append-half-reads
-use Rattle.deal.proofs.claim.Reads as claim-reads
 
 claim-requires : tie.Need-claim-requires
 claim-requires c κs = search needs
@@ -60,11 +55,11 @@ same-length-2 c = search needs
 
 returns-2 : tie.Need-returns-2
 returns-2 c = let a = (c .before .before .before .before .before .before .before .before .before .before .before .before .before .before .before .before .before .before .before .before .args) in
-    let k = a .k in
+    let k = a .f .domains in
     let e = whole-half k (k + a .d) (a .x) (a .l) (omega (arith, (c .before .before .before .before .before .before .before .before .before .before .before .before .before .before .before .before .before .before .before .before .pre))) (omega (arith, (c .before .before .before .before .before .before .before .before .before .before .before .before .before .before .before .before .before .before .before .before .pre))) (omega (arith, (c .before .before .before .before .before .before .before .before .before .before .before .before .before .before .before .before .before .before .before .before .pre))) in
     let f = whole-half k (a .d) (a .x) (a .r) (omega (arith, (c .before .before .before .before .before .before .before .before .before .before .before .before .before .before .before .before .before .before .before .before .pre))) (omega (arith, (c .before .before .before .before .before .before .before .before .before .before .before .before .before .before .before .before .before .before .before .before .pre))) (omega (arith, (c .before .before .before .before .before .before .before .before .before .before .before .before .before .before .before .before .before .before .before .before .pre))) in
     (rw (c .before .before .write-header .ensures, c .before .before .before .before .before .before .append-half2 .ensures, c .before .before .before .before .before .before .before .before .before .before .before .append-half .ensures) (ap₂ (λ s t. passed true (headIn (appendIn 32 (2 * k + 1) (appendIn 32 (2 * k + 1) (c .before .before .before .before .before .before .before .before .before .before .before .before .before .before .before .before .before .claim .last .0) (c .before .before .before .before .before .before .before .before .before .before .before .before .before .before .before .before .before .claim .result) s) (c .before .before .before .before .before .before .before .before .before .before .before .before .before .before .before .before .before .claim .result) t) (c .before .before .before .before .before .before .before .before .before .before .before .before .before .before .before .before .before .claim .result) (a .levels + 1) (a .count + 1))) e f))
-    ∙ root-some (a .n) k (a .d) (a .x) (a .l) (a .r) (a .levels) (a .count) (a .pool .now) (c .before .before .before .before .before .before .before .before .before .before .before .before .before .before .before .before .before .claim .last .0) (c .before .before .before .before .before .before .before .before .before .before .before .before .before .before .before .before .before .claim .result) (c .before .before .before .before .before .before .before .before .before .before .before .before .before .before .before .before .before .claim .ensures .0) (c .before .before .before .before .before .before .before .before .before .before .before .before .before .before .if1 .left)
+    ∙ root-some (a .f .pages) k (a .d) (a .x) (a .l) (a .r) (a .levels) (a .count) (a .pool .now) (c .before .before .before .before .before .before .before .before .before .before .before .before .before .before .before .before .before .claim .last .0) (c .before .before .before .before .before .before .before .before .before .before .before .before .before .before .before .before .before .claim .result) (c .before .before .before .before .before .before .before .before .before .before .before .before .before .before .before .before .before .claim .ensures .0) (c .before .before .before .before .before .before .before .before .before .before .before .before .before .before .if1 .left)
 
 pub new-root-spec : {M : Type 1} → statement M
 new-root-spec =

@@ -6,16 +6,12 @@ use Rattle.place.proofs.Laws.{place-done, place-back}
 use borrow.Author.Needs.{needs}
 use Rattle.place.proofs.place_in.Statement.{statement}
 use Rattle.place.proofs.place_in.Tie as tie
-use Rattle.place.proofs.place_in.Reads as reads
-use Rattle.place.proofs.place_in.Lts as lts
-use Rattle.place.proofs.place_steps.Reads as place-steps-reads
-use Rattle.words.proofs.copy.Reads as copy-reads
 
 copy-requires : tie.Need-copy-requires
 copy-requires c κs = search needs
 
 place-steps-requires : tie.Need-place-steps-requires
-place-steps-requires c κs = c .before .before .before .before .before .before .before .before .before .pre .0
+place-steps-requires c κs = search needs
 
 same-length : tie.Need-same-length
 same-length c = c .before .before .before .place-steps .kept .0
@@ -26,7 +22,7 @@ same-length-2 c = c .before .before .before .before .before .before .before .cop
 returns : tie.Need-returns
 returns c = let a = (c .before .before .before .before .before .before .before .before .before .before .before .before .before .args) in
     let w = a .pool .now in
-    (place-done (a .n) (a .point .now) (a .location) w (c .before .before .before .before .before .before .before .before .before .before .before .before .before .pre .0 .words) (c .before .before .before .place-steps .result) (c .before .before .before .place-steps .last .0) (c .before .before .before .place-steps .ensures) (c .if1 .taken), c .before .before .before .before .before .before .before .copy .ensures ∙ sets-all (a .work .now) w (sym (c .before .before .before .before .before .before .before .before .before .before .before .before .before .pre .1)))
+    (place-done (a .point .now) (a .location) w (a .f) (c .before .before .before .before .before .before .before .before .before .before .before .before .before .pre .0) (c .before .before .before .place-steps .result) (c .before .before .before .place-steps .last .0) (c .before .before .before .place-steps .ensures) (c .if1 .taken), c .before .before .before .before .before .before .before .copy .ensures ∙ sets-all (a .work .now) w (sym (c .before .before .before .before .before .before .before .before .before .before .before .before .before .pre .1 .1 .1 .1)))
 
 copy-requires-2 : tie.Need-copy-requires-2
 copy-requires-2 c κs = search needs
@@ -40,9 +36,9 @@ same-length-4 c = c .before .before .before .before .before .before .before .bef
 returns-2 : tie.Need-returns-2
 returns-2 c = let a = (c .before .before .before .before .before .before .before .before .before .before .before .before .before .before .before .before .before .before .args) in
     let w = a .pool .now in
-    let e = c .before .before .before .before .before .before .before .before .before .before .before .before .copy .ensures ∙ sets-all (a .work .now) w (sym (c .before .before .before .before .before .before .before .before .before .before .before .before .before .before .before .before .before .before .pre .1)) in
-    let b = c .before .before .copy2 .ensures ∙ sets-all (c .before .before .before .before .before .before .before .before .place-steps .last .0) (c .before .before .before .before .before .before .before .before .before .before .before .before .copy .last .0) (c .before .before .before .before .before .before .before .before .before .before .before .before .copy .kept .0 ∙ c .before .before .before .before .before .before .before .before .before .before .before .before .before .before .before .before .before .before .pre .1 ∙ sym (c .before .before .before .before .before .before .before .before .place-steps .kept .0)) ∙ e in
-    (rw b (place-back (a .n) (a .point .now) (a .location) w (c .before .before .before .before .before .before .before .before .before .before .before .before .before .before .before .before .before .before .pre .0 .words) (c .before .before .before .before .before .before .before .before .place-steps .result) (c .before .before .before .before .before .before .before .before .place-steps .last .0) (c .before .before .before .before .before .before .before .before .place-steps .ensures) (c .before .before .before .before .before .if1 .left)), e)
+    let e = c .before .before .before .before .before .before .before .before .before .before .before .before .copy .ensures ∙ sets-all (a .work .now) w (sym (c .before .before .before .before .before .before .before .before .before .before .before .before .before .before .before .before .before .before .pre .1 .1 .1 .1)) in
+    let b = c .before .before .copy2 .ensures ∙ sets-all (c .before .before .before .before .before .before .before .before .place-steps .last .0) (c .before .before .before .before .before .before .before .before .before .before .before .before .copy .last .0) (c .before .before .before .before .before .before .before .before .before .before .before .before .copy .kept .0 ∙ c .before .before .before .before .before .before .before .before .before .before .before .before .before .before .before .before .before .before .pre .1 .1 .1 .1 ∙ sym (c .before .before .before .before .before .before .before .before .place-steps .kept .0)) ∙ e in
+    (rw b (place-back (a .point .now) (a .location) w (a .f) (c .before .before .before .before .before .before .before .before .before .before .before .before .before .before .before .before .before .before .pre .0) (c .before .before .before .before .before .before .before .before .place-steps .result) (c .before .before .before .before .before .before .before .before .place-steps .last .0) (c .before .before .before .before .before .before .before .before .place-steps .ensures) (c .before .before .before .before .before .if1 .left)), e)
 
 pub place-in-spec : {M : Type 1} → statement M
 place-in-spec =

@@ -4,9 +4,6 @@ use Rattle.place.proofs.Laws.{header-is}
 use borrow.Author.Needs.{needs}
 use Rattle.place.proofs.write_header.Statement.{statement}
 use Rattle.place.proofs.write_header.Tie as tie
-use Rattle.place.proofs.write_header.Reads as reads
-use Rattle.place.proofs.write_header.Lts as lts
-use Rattle.words.proofs.put.Reads as put-reads
 
 put-requires : tie.Need-put-requires
 put-requires c κs = search needs

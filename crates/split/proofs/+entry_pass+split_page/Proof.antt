@@ -1,5 +1,5 @@
 -- `split::entry_pass` and `split::split_page`, which call each other, meet their contracts.
-use Prim.Native.Nat.{_≤_, _<_, _-_, _+_, _*_}
+use Prim.Native.Nat.{ℕ, _≤_, _<_, _-_, _+_, _*_}
 use native.Mathlib.Nat.{sub-zero}
 use mathlib.Core.Path.{_≡_, refl, sym, _∙_}
 use lib.ListN.{length}
@@ -7,7 +7,6 @@ use Rattle.steps.specs.Split.{entriesIn, splitIn}
 use Rattle.split.proofs.Laws as laws
 use borrow.Author.Needs.{needs}
 use native.Mathlib.Omega.{arith}
-use Prim.Native.Nat.{ℕ, _<_}
 use borrow.Fn.Kinds.{In}
 use borrow.Fn.PlainCycle.{Measures, is, falls, and}
 use Rattle.split.proofs.entry_pass.Reads as entry-pass
@@ -29,10 +28,10 @@ use Rattle.split.proofs.+entry_pass+split_page.{statement}
 use Rattle.split.proofs.+entry_pass+split_page.Tie.{close}
 
 abbrev μ-entry-pass : Measures 2 entry-pass-kinds.ps ℕ
-μ-entry-pass κs a = 2 * a .1 .1 .1 .1 .1 .0 + 1
+μ-entry-pass κs a = 2 * a .1 .1 .1 .1 .0 + 1
 
 abbrev μ-split-page : Measures 1 split-page-kinds.ps ℕ
-μ-split-page κs a = 2 * a .1 .1 .1 .1 .1 .0
+μ-split-page κs a = 2 * a .1 .1 .1 .1 .0
 
 abbrev entry-pass-at : ℕ → In 2 entry-pass-kinds.ps
 entry-pass-at t =
@@ -54,10 +53,10 @@ abbrev entry-pass-calls : ℕ → entry-pass-lts.Claims
 entry-pass-calls t = (crosses-reads.Asked, crosses-reads.Learnt, get-reads.Asked, get-reads.Learnt, split-page-below t, split-page.Post, deal-both-reads.Asked, deal-both-reads.Learnt, deal-entry-reads.Asked, deal-entry-reads.Learnt)
 
 abbrev entry-pass-Inv-loop : entry-pass-lts.InvT-loop
-entry-pass-Inv-loop pool₀ n k d x level src m j r a₀ i₀ pool a i = (i ≤ m) × (a ≤ 4 + 9 * i) × (length pool ≡ length pool₀) × (entriesIn 32 k d x (splitIn 32 n k d x level) (m - i) src a j r pool ≡ entriesIn 32 k d x (splitIn 32 n k d x level) m src 4 j r pool₀)
+entry-pass-Inv-loop pool₀ f d x level src m j r a₀ i₀ pool a i = (i ≤ m) × (a ≤ 4 + 9 * i) × (length pool ≡ length pool₀) × (entriesIn 32 (f .domains) d x (splitIn 32 (f .pages) (f .domains) d x level) (m - i) src a j r pool ≡ entriesIn 32 (f .domains) d x (splitIn 32 (f .pages) (f .domains) d x level) m src 4 j r pool₀)
 
 abbrev entry-pass-μ-loop : entry-pass-lts.MeasureT-loop
-entry-pass-μ-loop pool₀ n k d x level src m j r a₀ i₀ pool a i = m - i
+entry-pass-μ-loop pool₀ f d x level src m j r a₀ i₀ pool a i = m - i
 
 entry-pass-loop-holds : (t : ℕ) → entry-pass-lts.Need-loop-holds (entry-pass-calls t) (entry-pass-at t) entry-pass.Post entry-pass-Inv-loop entry-pass-μ-loop
 entry-pass-loop-holds t c = (omega arith, omega arith, refl, rw (sub-zero (c .before .before .args .m)))
@@ -90,11 +89,11 @@ entry-pass-split-page-requires : (t : ℕ) → entry-pass-lts.Need-split-page-re
 entry-pass-split-page-requires t c κs = search needs
 
 entry-pass-same-length : (t : ℕ) → entry-pass-lts.Need-same-length (entry-pass-calls t) (entry-pass-at t) entry-pass.Post entry-pass-Inv-loop entry-pass-μ-loop
-entry-pass-same-length t c = c .before .before .before .split-page .kept .0 ∙ c .before .before .before .before .before .before .before .before .before .loop .inv .2
+entry-pass-same-length t c = c .before .before .before .split-page .kept .0 ∙ c .before .before .before .before .before .before .before .before .before .before .before .loop .inv .2
 
 entry-pass-returns : (t : ℕ) → entry-pass-lts.Need-returns (entry-pass-calls t) (entry-pass-at t) entry-pass.Post entry-pass-Inv-loop entry-pass-μ-loop
 entry-pass-returns t c = let e = c .before .before .before .before .get .ensures .0 in
-    laws.entries-short _ _ _ _ _ _ _ _ _ _ _ _ (c .before .before .before .before .before .before .before .before .before .loop .inv .3) (c .before .before .before .before .before .before .before .before .loop-test .taken) (sym (c .before .before .before .before .before .before .before .crosses .ensures) ∙ c .before .before .before .before .before .before .if1 .taken) _ _ (rw e at (c .before .before .before .split-page .ensures .0)) (c .if2 .taken)
+    laws.entries-short _ _ _ _ _ _ _ _ _ _ _ _ (c .before .before .before .before .before .before .before .before .before .before .before .loop .inv .3) (c .before .before .before .before .before .before .before .before .before .before .loop-test .taken) (sym (c .before .before .before .before .before .before .before .before .crosses .ensures) ∙ c .before .before .before .before .before .before .before .if1 .taken) _ _ (rw e at (c .before .before .before .split-page .ensures .0)) (c .if2 .taken)
 
 entry-pass-deal-both-requires : (t : ℕ) → entry-pass-lts.Need-deal-both-requires (entry-pass-calls t) (entry-pass-at t) entry-pass.Post entry-pass-Inv-loop entry-pass-μ-loop
 entry-pass-deal-both-requires t c κs = search needs
@@ -103,9 +102,9 @@ entry-pass-loop-less : (t : ℕ) → entry-pass-lts.Need-loop-less (entry-pass-c
 entry-pass-loop-less t c = search needs
 
 entry-pass-loop-again : (t : ℕ) → entry-pass-lts.Need-loop-again (entry-pass-calls t) (entry-pass-at t) entry-pass.Post entry-pass-Inv-loop entry-pass-μ-loop
-entry-pass-loop-again t c = let i = c .before .before .before .before .before .before .before .before .before .before .before .before .before .loop .inv in
+entry-pass-loop-again t c = let i = c .before .before .before .before .before .before .before .before .before .before .before .before .before .before .before .loop .inv in
     let g = c .before .before .before .before .before .before .before .before .get .ensures .0 in
-    (omega arith, omega arith, c .before .before .deal-both .kept .0 ∙ c .before .before .before .before .before .before .before .split-page .kept .0 ∙ i .2, rw (c .before .before .deal-both .ensures) (laws.entries-both _ _ _ _ _ _ _ _ _ _ _ _ (i .3) (c .before .before .before .before .before .before .before .before .before .before .before .before .loop-test .taken) (sym (c .before .before .before .before .before .before .before .before .before .before .before .crosses .ensures) ∙ c .before .before .before .before .before .before .before .before .before .before .if1 .taken) _ _ (rw g at (c .before .before .before .before .before .before .before .split-page .ensures .0)) (c .before .before .before .before .if2 .left)))
+    (omega arith, omega arith, c .before .before .deal-both .kept .0 ∙ c .before .before .before .before .before .before .before .split-page .kept .0 ∙ i .2, rw (c .before .before .deal-both .ensures) (laws.entries-both _ _ _ _ _ _ _ _ _ _ _ _ (i .3) (c .before .before .before .before .before .before .before .before .before .before .before .before .before .before .loop-test .taken) (sym (c .before .before .before .before .before .before .before .before .before .before .before .before .crosses .ensures) ∙ c .before .before .before .before .before .before .before .before .before .before .before .if1 .taken) _ _ (rw g at (c .before .before .before .before .before .before .before .split-page .ensures .0)) (c .before .before .before .before .if2 .left)))
 
 entry-pass-deal-entry-requires : (t : ℕ) → entry-pass-lts.Need-deal-entry-requires (entry-pass-calls t) (entry-pass-at t) entry-pass.Post entry-pass-Inv-loop entry-pass-μ-loop
 entry-pass-deal-entry-requires t c κs = search needs
@@ -114,8 +113,8 @@ entry-pass-loop-less-2 : (t : ℕ) → entry-pass-lts.Need-loop-less-2 (entry-pa
 entry-pass-loop-less-2 t c = search needs
 
 entry-pass-loop-again-2 : (t : ℕ) → entry-pass-lts.Need-loop-again-2 (entry-pass-calls t) (entry-pass-at t) entry-pass.Post entry-pass-Inv-loop entry-pass-μ-loop
-entry-pass-loop-again-2 t c = let i = c .before .before .before .before .before .before .before .loop .inv in
-    (omega arith, omega arith, c .before .before .deal-entry .kept .0 ∙ i .2, rw (c .before .before .deal-entry .ensures) (laws.entries-deal _ _ _ _ _ _ _ _ _ _ _ _ (i .3) (c .before .before .before .before .before .before .loop-test .taken) (sym (c .before .before .before .before .before .crosses .ensures) ∙ c .before .before .before .before .if1 .left)))
+entry-pass-loop-again-2 t c = let i = c .before .before .before .before .before .before .before .before .loop .inv in
+    (omega arith, omega arith, c .before .before .deal-entry .kept .0 ∙ i .2, rw (c .before .before .deal-entry .ensures) (laws.entries-deal _ _ _ _ _ _ _ _ _ _ _ _ (i .3) (c .before .before .before .before .before .before .before .loop-test .taken) (sym (c .before .before .before .before .before .crosses .ensures) ∙ c .before .before .before .before .if1 .left)))
 
 entry-pass-same-length-2 : (t : ℕ) → entry-pass-lts.Need-same-length-2 (entry-pass-calls t) (entry-pass-at t) entry-pass.Post entry-pass-Inv-loop entry-pass-μ-loop
 entry-pass-same-length-2 t c = c .before .loop .inv .2
@@ -153,7 +152,7 @@ split-page-same-length t c = c .before .before .part-points .kept .0
 split-page-returns : (t : ℕ) → split-page-lts.Need-returns (split-page-calls t) (split-page-at t) split-page.Post
 split-page-returns t c = let a = (c .before .before .before .before .before .before .before .before .before .before .before .before .before .before .before .args) in
     let e = (rw (c .before .before .before .before .before .before .before .copy-part .ensures, c .before .before .before .before .before .before .before .before .before .before .before .before .word .ensures .0, c .before .before .before .before .before .before .before .before .before .before .after-forced .ensures .0) at (c .before .before .part-points .ensures .0)) in
-    (e ∙ laws.split-points (a .n) (a .pool .now) (a .j) (c .before .before .before .before .before .before .before .before .before .before .before .before .before .before .before .pre .1 .1 .0) (a .k) (a .d) (a .x) (a .level) (c .before .before .before .before .before .if1 .taken), c .before .before .part-points .ensures .1)
+    (e ∙ laws.split-points (a .f .pages) (a .pool .now) (a .j) (c .before .before .before .before .before .before .before .before .before .before .before .before .before .before .before .pre .1 .0 .words) (a .f .domains) (a .d) (a .x) (a .level) (c .before .before .before .before .before .if1 .taken), c .before .before .part-points .ensures .1)
 
 split-page-open-pages-requires : (t : ℕ) → split-page-lts.Need-open-pages-requires (split-page-calls t) (split-page-at t) split-page.Post
 split-page-open-pages-requires t c κs = search needs
@@ -164,7 +163,7 @@ split-page-same-length-2 t c = c .before .before .before .open-pages .kept .0
 split-page-returns-2 : (t : ℕ) → split-page-lts.Need-returns-2 (split-page-calls t) (split-page-at t) split-page.Post
 split-page-returns-2 t c = let a = (c .before .before .before .before .before .before .before .before .before .before .before .before .before .before .before .args) in
     let o = (rw (c .before .before .before .before .before .before .before .before .before .before .after-forced .ensures .0) at (c .before .before .before .open-pages .ensures .0)) in
-    (laws.regions-none _ _ _ _ (splitIn 32 (a .n) (a .k) (a .d) (a .x) (a .level - 1)) _ _ _ _ _ _ _ o (c .if2 .taken) ∙ laws.split-regions (a .n) (a .pool .now) (a .j) (c .before .before .before .before .before .before .before .before .before .before .before .before .before .before .before .pre .1 .1 .0) (a .k) (a .d) (a .x) (a .level) (a .level - 1) (omega (arith, c .before .before .before .before .before .if1 .left)), omega arith)
+    (laws.regions-none _ _ _ _ (splitIn 32 (a .f .pages) (a .f .domains) (a .d) (a .x) (a .level - 1)) _ _ _ _ _ _ _ o (c .if2 .taken) ∙ laws.split-regions (a .f .pages) (a .pool .now) (a .j) (c .before .before .before .before .before .before .before .before .before .before .before .before .before .before .before .pre .1 .0 .words) (a .f .domains) (a .d) (a .x) (a .level) (a .level - 1) (omega (arith, c .before .before .before .before .before .if1 .left)), omega arith)
 
 split-page-sub-entry-pass : (t : ℕ) → split-page-lts.Need-sub-entry-pass (split-page-calls t) (split-page-at t) split-page.Post
 split-page-sub-entry-pass t c = search needs
@@ -182,7 +181,7 @@ split-page-returns-3 : (t : ℕ) → split-page-lts.Need-returns-3 (split-page-c
 split-page-returns-3 t c = let a = (c .before .before .before .before .before .before .before .before .before .before .before .before .before .before .before .before .before .before .before .before .before .args) in
     let o = (rw (c .before .before .before .before .before .before .before .before .before .before .before .before .before .before .before .before .after-forced .ensures .0) at (c .before .before .before .before .before .before .before .before .before .open-pages .ensures .0)) in
     let p = (rw (c .before .before .before .before .before .before .before .before .before .before .before .before .before .copy-part .ensures, c .before .before .before .before .before .before .before .before .before .before .before .before .before .before .before .before .before .before .word .ensures .0) at (c .before .before .before .entry-pass .ensures)) in
-    (laws.regions-whole _ _ _ _ _ _ _ _ _ _ _ _ o (c .before .before .before .before .before .before .if2 .left) _ _ p (c .if3 .taken) ∙ laws.split-regions (a .n) (a .pool .now) (a .j) (c .before .before .before .before .before .before .before .before .before .before .before .before .before .before .before .before .before .before .before .before .before .pre .1 .1 .0) (a .k) (a .d) (a .x) (a .level) (a .level - 1) (omega (arith, c .before .before .before .before .before .before .before .before .before .before .before .if1 .left)), c .before .before .before .before .before .before .before .before .before .open-pages .ensures .1)
+    (laws.regions-whole _ _ _ _ _ _ _ _ _ _ _ _ o (c .before .before .before .before .before .before .if2 .left) _ _ p (c .if3 .taken) ∙ laws.split-regions (a .f .pages) (a .pool .now) (a .j) (c .before .before .before .before .before .before .before .before .before .before .before .before .before .before .before .before .before .before .before .before .before .pre .1 .0 .words) (a .f .domains) (a .d) (a .x) (a .level) (a .level - 1) (omega (arith, c .before .before .before .before .before .before .before .before .before .before .before .if1 .left)), c .before .before .before .before .before .before .before .before .before .open-pages .ensures .1)
 
 split-page-same-length-4 : (t : ℕ) → split-page-lts.Need-same-length-4 (split-page-calls t) (split-page-at t) split-page.Post
 split-page-same-length-4 t c = c .before .before .before .entry-pass .kept .0 ∙ c .before .before .before .before .before .before .before .before .before .open-pages .kept .0
@@ -191,7 +190,7 @@ split-page-returns-4 : (t : ℕ) → split-page-lts.Need-returns-4 (split-page-c
 split-page-returns-4 t c = let a = (c .before .before .before .before .before .before .before .before .before .before .before .before .before .before .before .before .before .before .before .before .before .args) in
     let o = (rw (c .before .before .before .before .before .before .before .before .before .before .before .before .before .before .before .before .after-forced .ensures .0) at (c .before .before .before .before .before .before .before .before .before .open-pages .ensures .0)) in
     let p = (rw (c .before .before .before .before .before .before .before .before .before .before .before .before .before .copy-part .ensures, c .before .before .before .before .before .before .before .before .before .before .before .before .before .before .before .before .before .before .word .ensures .0) at (c .before .before .before .entry-pass .ensures)) in
-    (laws.regions-short _ _ _ _ _ _ _ _ _ _ _ _ o (c .before .before .before .before .before .before .if2 .left) _ _ p (c .if3 .left) ∙ laws.split-regions (a .n) (a .pool .now) (a .j) (c .before .before .before .before .before .before .before .before .before .before .before .before .before .before .before .before .before .before .before .before .before .pre .1 .1 .0) (a .k) (a .d) (a .x) (a .level) (a .level - 1) (omega (arith, c .before .before .before .before .before .before .before .before .before .before .before .if1 .left)), omega arith)
+    (laws.regions-short _ _ _ _ _ _ _ _ _ _ _ _ o (c .before .before .before .before .before .before .if2 .left) _ _ p (c .if3 .left) ∙ laws.split-regions (a .f .pages) (a .pool .now) (a .j) (c .before .before .before .before .before .before .before .before .before .before .before .before .before .before .before .before .before .before .before .before .before .pre .1 .0 .words) (a .f .domains) (a .d) (a .x) (a .level) (a .level - 1) (omega (arith, c .before .before .before .before .before .before .before .before .before .before .before .if1 .left)), omega arith)
 
 pub +entry-pass+split-page-spec : {M : Type 1} → statement M
 +entry-pass+split-page-spec = close μ-entry-pass μ-split-page (λ t. entry-pass-lts.spec (entry-pass-calls t)

@@ -6,10 +6,6 @@ use borrow.Author.Needs.{needs}
 use native.Mathlib.Omega.{arith}
 use Rattle.split.proofs.part_regions.Statement.{statement}
 use Rattle.split.proofs.part_regions.Tie as tie
-use Rattle.split.proofs.part_regions.Reads as reads
-use Rattle.split.proofs.part_regions.Lts as lts
-use Rattle.split.proofs.entry_pass.Reads as entry-pass-reads
-use Rattle.deal.proofs.open_pages.Reads as open-pages-reads
 
 open-pages-requires : tie.Need-open-pages-requires
 open-pages-requires c κs = search needs
