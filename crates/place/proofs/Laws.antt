@@ -21,16 +21,26 @@ use Rattle.deal.specs.Part.{claimed, halfIn}
 use Rattle.split.specs.Part.{passed}
 use Rattle.grow.specs.Grown.{grownAs}
 use Rattle.grow.specs.declared.Grown.{Grown as Answer}
-use Rattle.steps.specs.Machine.{word, freshIn, appendIn}
+use Rattle.steps.specs.Machine.{word, headIn, freshIn, appendIn}
 use Rattle.steps.specs.Claim.{lowest, claimIn}
 use Rattle.steps.specs.Grow.{growIn}
-use Rattle.steps.specs.Place.{headIn, space, rootIn, toppedIn, firstIn, restored, placeIn}
+use Rattle.steps.specs.Place.{space, rootIn, toppedIn, firstIn, restored, placeIn}
 use Rattle.steps.specs.Remove.{downIn, closeIn, removeIn}
 use Rattle.place.specs.Steps.{stepsIn}
 
+-- a word stored where it stands
+again : (w : List ℕ) (i : ℕ) → set w i (getD w i 0) ≡ w
+again [] i = refl
+again (a ∷ w) zero = refl
+again (a ∷ w) (suc i) = ap (λ v. a ∷ v) (again w i)
+
+-- the header's words that change are stored alone: root, levels and count, or the count
 pub header-is : (w : List ℕ) (r l c : ℕ) → set (set (set w 2 r) 3 l) 4 c ≡ headIn w r l c
 unfolding headIn
-header-is w r l c = refl
+header-is w r l c = ap (λ v. set (set (set v 2 r) 3 l) 4 c) (sym (ap (λ v. set v 1 (getD w 1 0)) (again w 0) ∙ again w 1))
+
+count-is : (w : List ℕ) (c : ℕ) → set w 4 c ≡ headIn w (rootAt w) (levelsAt w) c
+count-is w c = ap (λ v. set v 4 c) (sym (ap (λ v. set v 3 (levelsAt w)) (again w 2) ∙ again w 3)) ∙ header-is w (rootAt w) (levelsAt w) c
 
 -- the entry of the whole space in the table
 abbrev pub table : List ℕ
@@ -157,4 +167,4 @@ remove-is j slot w f h =
     let a = 32 * j + 4 + slot * wd in
     let n = 32 * j + 4 + word L w j 1 * wd - (a + wd) in
     let q : a + n + wd - (a + n) ≡ wd = omega arith in
-    rw (q, h .says)
+    rw (q, h .says) (count-is _ _)

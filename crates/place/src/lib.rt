@@ -20,7 +20,8 @@ ghost use Rattle.words.specs.Words.{Formed, Fit};
 ghost use Rattle.deal.specs.Part.{Along};
 ghost use Rattle.split.specs.Part.{passed};
 ghost use Rattle.grow.specs.Grown.{grownAs, Real};
-ghost use Rattle.steps.specs.Place.{headIn, rootIn, toppedIn, firstIn, placeIn};
+ghost use Rattle.steps.specs.Machine.{headIn};
+ghost use Rattle.steps.specs.Place.{rootIn, toppedIn, firstIn, placeIn};
 ghost use Rattle.steps.specs.Remove.{downIn, removeIn};
 ghost use Rattle.place.specs.Steps.{Topping, stepsIn};
 

@@ -5,8 +5,7 @@ use mathlib.Core.List.{[], _∷_, _++_}
 use mathlib.Core.Bool.{true}
 use lib.Seq.{length-take-le, take-all}
 use lib.ListN.{take, length-append}
-use Rattle.steps.specs.Place.{headIn}
-use Rattle.steps.specs.Machine.{appendIn}
+use Rattle.steps.specs.Machine.{headIn, appendIn}
 use Rattle.split.specs.Part.{passed}
 use Rattle.grow.proofs.Laws.{record-words}
 use Rattle.place.proofs.Laws.{first-none, first-some}

@@ -2,8 +2,7 @@
 use Prim.Native.Nat.{_+_, _*_}
 use mathlib.Core.Path.{ap₂, _∙_}
 use mathlib.Core.Bool.{true}
-use Rattle.steps.specs.Place.{headIn}
-use Rattle.steps.specs.Machine.{appendIn}
+use Rattle.steps.specs.Machine.{headIn, appendIn}
 use Rattle.split.specs.Part.{passed}
 use Rattle.place.proofs.Laws.{root-none, root-some, whole-half}
 use borrow.Author.Needs.{needs}
