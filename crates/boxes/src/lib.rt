@@ -1,5 +1,6 @@
 // Tests of regions, windows and keys on the words of a pool, each a loop over the domains.
 use kdb::Form;
+use words::domains_of;
 use words::larger;
 use words::lower_end;
 use words::point_key;
@@ -48,11 +49,12 @@ pub fn in_window(pool: &[u32], f: Form, j: usize, slot: usize, window: &[u32]) -
     requires { ⌜ RecordIn (now pool) (f .domains) j slot × (length (now window) ≡ 2 * f .domains) ⌝ }
     ensures { λ r. ⌜ r ≡ inWindow (windowOf (f .domains) (now (window .entry))) (keysOf (f .domains) (now (pool .entry)) j slot) ⌝ }
 {
+    let k = domains_of(f);
     let mut ok = true;
     let mut d: usize = 0;
-    while d < f.domains {
+    while d < k {
         let key = point_key(pool, f, j, slot, d);
-        ok = ok & ((read(window, d) <= key) & (key <= read(window, f.domains + d)));
+        ok = ok & ((read(window, d) <= key) & (key <= read(window, k + d)));
         d += 1;
     }
     ok
@@ -63,9 +65,10 @@ pub fn same_keys(pool: &[u32], f: Form, j: usize, slot: usize, point: &[u32]) ->
     requires { ⌜ RecordIn (now pool) (f .domains) j slot × (length (now point) ≡ f .domains) ⌝ }
     ensures { λ r. ⌜ r ≡ same (now (point .entry)) (keysOf (f .domains) (now (pool .entry)) j slot) ⌝ }
 {
+    let k = domains_of(f);
     let mut ok = true;
     let mut d: usize = 0;
-    while d < f.domains {
+    while d < k {
         ok = ok & (read(point, d) == point_key(pool, f, j, slot, d));
         d += 1;
     }

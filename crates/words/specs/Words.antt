@@ -91,6 +91,7 @@ pub record RegionIn (w : List ℕ) (k a : ℕ) : Type 0 where
   pub ends : a + 2 * k ≤ length w
 
 pub record RecordIn (w : List ℕ) (k j e : ℕ) : Type 0 where
+  pub some : 1 ≤ k
   pub few : k ≤ 4
   pub page : j < 2 ^ 32
   pub slot : e < 2 ^ 32

@@ -148,6 +148,14 @@ pub fn points_per(k: usize) -> usize
     capacity(1, k)
 }
 
+// The domains of a form: from here on the compiler knows that they are 1 to 4.
+pub fn domains_of(f: Form) -> usize
+    requires { ⌜ (1 ≤ f .domains) × (f .domains ≤ 4) ⌝ }
+    ensures { λ r. ⌜ r ≡ f .domains ⌝ }
+{
+    smaller(f.domains - 1, 3) + 1
+}
+
 // Where key d of the record in a slot of point page j stands: a record is its keys, then its location.
 pub fn key_at(f: Form, j: usize, slot: usize, d: usize) -> usize
     requires { ⌜ (f .domains ≤ 4) × ((j < 2 ^ 32) × ((slot < 2 ^ 32) × (d ≤ f .domains))) ⌝ }

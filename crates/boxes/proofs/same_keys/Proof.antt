@@ -14,13 +14,16 @@ use Rattle.boxes.proofs.same_keys.Statement.{statement}
 use Rattle.boxes.proofs.same_keys.Tie as tie
 
 abbrev Inv-loop : tie.InvT-loop
-Inv-loop pool f j slot point ok₀ d₀ ok d = (d ≤ f .domains) × (allBy (f .domains - d) (sameAt pool (f .domains) j slot point) 1 d ok ≡ same point (keysOf (f .domains) pool j slot))
+Inv-loop pool f j slot point k ok₀ d₀ ok d = (d ≤ f .domains) × (allBy (f .domains - d) (sameAt pool (f .domains) j slot point) 1 d ok ≡ same point (keysOf (f .domains) pool j slot))
 
 abbrev μ-loop : tie.MeasureT-loop
-μ-loop pool f j slot point ok₀ d₀ ok d = f .domains - d
+μ-loop pool f j slot point k ok₀ d₀ ok d = f .domains - d
+
+domains-of-requires : tie.Need-domains-of-requires Inv-loop μ-loop
+domains-of-requires c κs = search needs
 
 loop-holds : tie.Need-loop-holds Inv-loop μ-loop
-loop-holds c = let a = c .before .before .args in (omega arith, rw (sub-zero (a .f .domains)) (tests.same-keys (a .pool .now) (a .f .domains) (a .j) (a .slot) (c .before .before .pre .0) (a .point .now) (c .before .before .pre .1)))
+loop-holds c = let a = c .before .before .before .args in (omega arith, rw (sub-zero (a .f .domains)) (tests.same-keys (a .pool .now) (a .f .domains) (a .j) (a .slot) (c .before .before .before .pre .0) (a .point .now) (c .before .before .before .pre .1)))
 
 read-requires : tie.Need-read-requires Inv-loop μ-loop
 read-requires c κs = search needs
@@ -35,10 +38,10 @@ loop-less : tie.Need-loop-less Inv-loop μ-loop
 loop-less c = search needs
 
 loop-again : tie.Need-loop-again Inv-loop μ-loop
-loop-again c = (omega arith, rw (c .before .read .ensures .0, c .point-key .ensures .0) (all-next _ _ _ _ _ _ _ (c .before .before .before .before .loop .inv .1) (omega arith)))
+loop-again c = (omega arith, rw (c .before .read .ensures .0, c .point-key .ensures .0) (all-next _ _ _ _ _ _ _ (c .before .before .before .loop .inv .1) (omega arith)))
 
 returns : tie.Need-returns Inv-loop μ-loop
-returns c = all-end _ _ _ _ _ _ _ (c .before .before .loop .inv .1) (omega arith)
+returns c = all-end _ _ _ _ _ _ _ (c .before .loop .inv .1) (omega arith)
 
 pub same-keys-spec : {M : Type 1} → statement M
 same-keys-spec =
@@ -46,6 +49,7 @@ same-keys-spec =
     (tie.spec
     Inv-loop
     μ-loop
+    domains-of-requires
     loop-holds
     read-requires
     point-key-requires
