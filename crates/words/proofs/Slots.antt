@@ -7,9 +7,10 @@ use native.Mathlib.Nat.{suc-mul, zero-mul, sub-zero, mul-le-mul-left, mul-le-mul
 use lib.ListN.{take, drop, getD}
 use Rattle.kdb.specs.Pages.{readRecs}
 use Rattle.kdb.specs.Calls.{L}
+use Rattle.kdb.specs.declared.Form.{Form}
 use Rattle.kdb.proofs.Words.{rec-turn}
 use Rattle.words.specs.Loops.{keysBy}
-use Rattle.words.specs.Words.{keyAt, locationAt, pointKey, pointLocation, keysOf, recordsFrom, RecordIn}
+use Rattle.words.specs.Words.{keyAt, locationAt, pointKey, pointLocation, keysOf, recordsFrom, Formed, RecordIn}
 use Rattle.words.proofs.Loops.{keys-by}
 
 -- a slot's place is not far
@@ -40,10 +41,16 @@ module _ (k : ℕ) (w : List ℕ) (j c e : ℕ) where
 pub records-all : (k : ℕ) (w : List ℕ) (j c : ℕ) → recordsFrom k w j c 0 ≡ readRecs k c (drop (L * j + 4) w)
 records-all k w j c = let q : keyAt k j 0 0 ≡ L * j + 4 = omega (arith, zero-mul (k + 1)) in rw (q, sub-zero c)
 
--- where so many records fit, the one in a slot below the count ends within the page
-pub slot-in : (k j c e : ℕ) → c * (k + 1) ≤ L - 4 → e < c → (e ≤ 28) × (locationAt k j e < L * j + L)
-slot-in k j c e g h =
-    let q : suc e * (k + 1) ≤ c * (k + 1) = mul-le-mul-right (k + 1) h in
-    let r : suc e * (k + 1) ≡ e * (k + 1) + (k + 1) = suc-mul e (k + 1) in
-    let s : e * 1 ≤ e * (k + 1) = mul-le-mul-left e (omega arith) in
-    (omega (arith, g), omega (arith, g))
+-- c records that fit into page j lie in the pool
+pub records-in : (w : List ℕ) (f : Form) (j c : ℕ) → Formed w f → j < f .pages → c * (f .domains + 1) ≤ L - 4
+    → (c ≤ 28) × ((e : ℕ) → e < c → RecordIn w (f .domains) j e)
+records-in w f j c g i h = (few c h, slot)
+  where
+    few : (n : ℕ) → n * (f .domains + 1) ≤ L - 4 → n ≤ 28
+    few n m = let s : n * 1 ≤ n * (f .domains + 1) = mul-le-mul-left n (omega arith) in omega (arith, m)
+
+    slot : (e : ℕ) → e < c → RecordIn w (f .domains) j e
+    slot e l =
+        let q : suc e * (f .domains + 1) ≤ c * (f .domains + 1) = mul-le-mul-right (f .domains + 1) l in
+        let r : suc e * (f .domains + 1) ≡ e * (f .domains + 1) + (f .domains + 1) = suc-mul e (f .domains + 1) in
+        record { some = g .some; few = g .few; page = omega (arith, g .most); slot = omega (arith, few c h); ends = omega (arith, g .words) }
