@@ -11,7 +11,7 @@ use lib.Seq.{take-all}
 use Rattle.kdb.specs.Lists.{same}
 use Rattle.kdb.specs.Box.{sides, within, inWindow, meets}
 use Rattle.kdb.specs.Calls.{windowOf, ordered}
-use Rattle.kdb.proofs.Lists.{and-true, and-assoc}
+use Rattle.kdb.proofs.Tests.{and-true, and-assoc}
 use Rattle.words.proofs.Loops.{keys-by}
 use Rattle.words.proofs.Slots.{keys-of}
 use Rattle.words.specs.Loops.{allBy, keysBy}

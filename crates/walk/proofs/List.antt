@@ -17,7 +17,8 @@ use Rattle.kdb.specs.Pages.{Ent, readEnts, recsIn, entsIn}
 use Rattle.kdb.specs.Pool.{levelsAt, rootAt, view, isPage}
 use Rattle.kdb.specs.Walk.{Spot, spots, Tour, still, astray, badAt, readAt, follow, through, goodPoints, goodRegions, tour, bounded, listWalk}
 use Rattle.kdb.specs.Calls.{L}
-use Rattle.kdb.proofs.Lists.{and-t, sets-append}
+use Rattle.kdb.proofs.Tests.{and-t}
+use Rattle.kdb.proofs.Stores.{sets-append}
 use Rattle.kdb.proofs.Words.{ent-turn}
 use Rattle.words.specs.Words.{wordAt, pointLocation, keysOf, regionAt, recordsFrom, Fit}
 use Rattle.words.proofs.Laws.{pages}

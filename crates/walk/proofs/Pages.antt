@@ -13,7 +13,7 @@ use Rattle.kdb.specs.Pages.{recsIn, entsIn, readRecs, readEnts}
 use Rattle.kdb.specs.Pool.{view, isPage}
 use Rattle.kdb.specs.Walk.{goodPoints, goodRegions}
 use Rattle.kdb.specs.Calls.{L}
-use Rattle.kdb.proofs.Lists.{and-t}
+use Rattle.kdb.proofs.Tests.{and-t}
 use Rattle.kdb.proofs.Words.{good-points, good-regions, points-in, regions-in}
 use Rattle.words.specs.Words.{wordAt, recordsFrom, Formed, Fit}
 use Rattle.words.proofs.Laws.{pages}
