@@ -13,8 +13,9 @@ use Rattle.kdb.specs.Box.{sides, within, inWindow, meets}
 use Rattle.kdb.specs.Calls.{windowOf, ordered}
 use Rattle.kdb.proofs.Tests.{and-true, and-assoc}
 use Rattle.words.proofs.Loops.{keys-by}
+use Rattle.words.proofs.Slots.{keys-of}
 use Rattle.words.specs.Loops.{allBy, keysBy}
-use Rattle.words.specs.Words.{regionAt, keysOf, RegionIn, RecordIn, pointAt}
+use Rattle.words.specs.Words.{regionAt, keysOf, RegionIn, RecordIn}
 use Rattle.boxes.specs.Tests.{holdsAt, meetsAt, seenAt, sameAt, orderedAt}
 
 -- a loop over m domains from d on, by the functions that give the ends and the keys
@@ -73,11 +74,11 @@ module _ (k : ℕ) (v : List ℕ) (e : length v ≡ 2 * k) where
   meets-window w a g = meets-by k _ _ _ _ 0 true ∙ ap₂ meets (region w k a g) window
 
   pub in-window : (w : List ℕ) (j s : ℕ) → RecordIn w k j s → allBy k (seenAt w k j s v) 1 0 true ≡ inWindow (windowOf k v) (keysOf k w j s)
-  in-window w j s g = window-by k _ _ _ 0 true ∙ ap₂ inWindow window (from k (pointAt k j s) w (omega (arith, g .ends)))
+  in-window w j s g = window-by k _ _ _ 0 true ∙ ap₂ inWindow window (keys-of k w j s g)
 
   pub ordered-window : allBy k (orderedAt v k) 1 0 true ≡ ordered (windowOf k v)
   ordered-window = ordered-by k _ _ 0 true ∙ ap ordered window
 
 pub same-keys : (w : List ℕ) (k j s : ℕ) → RecordIn w k j s → (p : List ℕ) → length p ≡ k
     → allBy k (sameAt w k j s p) 1 0 true ≡ same p (keysOf k w j s)
-same-keys w k j s g p e = same-by k _ _ 0 true ∙ ap₂ same (own k p e) (from k (pointAt k j s) w (omega (arith, g .ends)))
+same-keys w k j s g p e = same-by k _ _ 0 true ∙ ap₂ same (own k p e) (keys-of k w j s g)

@@ -1,7 +1,9 @@
 // Tests of regions, windows and keys on the words of a pool, each a loop over the domains.
+use kdb::Form;
+use words::domains_of;
 use words::larger;
 use words::lower_end;
-use words::point_at;
+use words::point_key;
 use words::read;
 use words::upper_end;
 ghost use mathlib.Core.Path.{_≡_};
@@ -43,15 +45,15 @@ pub fn meets_window(pool: &[u32], k: usize, at: usize, window: &[u32]) -> bool
 }
 
 // The window holds the record in a slot of page j: lower ≤ key ≤ upper in each domain.
-pub fn in_window(pool: &[u32], k: usize, j: usize, slot: usize, window: &[u32]) -> bool
-    requires { ⌜ RecordIn (now pool) k j slot × (length (now window) ≡ 2 * k) ⌝ }
-    ensures { λ r. ⌜ r ≡ inWindow (windowOf k (now (window .entry))) (keysOf k (now (pool .entry)) j slot) ⌝ }
+pub fn in_window(pool: &[u32], f: Form, j: usize, slot: usize, window: &[u32]) -> bool
+    requires { ⌜ RecordIn (now pool) (f .domains) j slot × (length (now window) ≡ 2 * f .domains) ⌝ }
+    ensures { λ r. ⌜ r ≡ inWindow (windowOf (f .domains) (now (window .entry))) (keysOf (f .domains) (now (pool .entry)) j slot) ⌝ }
 {
-    let at = point_at(k, j, slot);
+    let k = domains_of(f);
     let mut ok = true;
     let mut d: usize = 0;
     while d < k {
-        let key = read(pool, at + d);
+        let key = point_key(pool, f, j, slot, d);
         ok = ok & ((read(window, d) <= key) & (key <= read(window, k + d)));
         d += 1;
     }
@@ -59,15 +61,15 @@ pub fn in_window(pool: &[u32], k: usize, j: usize, slot: usize, window: &[u32]) 
 }
 
 // The record in a slot of page j has the point's keys.
-pub fn same_keys(pool: &[u32], k: usize, j: usize, slot: usize, point: &[u32]) -> bool
-    requires { ⌜ RecordIn (now pool) k j slot × (length (now point) ≡ k) ⌝ }
-    ensures { λ r. ⌜ r ≡ same (now (point .entry)) (keysOf k (now (pool .entry)) j slot) ⌝ }
+pub fn same_keys(pool: &[u32], f: Form, j: usize, slot: usize, point: &[u32]) -> bool
+    requires { ⌜ RecordIn (now pool) (f .domains) j slot × (length (now point) ≡ f .domains) ⌝ }
+    ensures { λ r. ⌜ r ≡ same (now (point .entry)) (keysOf (f .domains) (now (pool .entry)) j slot) ⌝ }
 {
-    let at = point_at(k, j, slot);
+    let k = domains_of(f);
     let mut ok = true;
     let mut d: usize = 0;
     while d < k {
-        ok = ok & (read(point, d) == read(pool, at + d));
+        ok = ok & (read(point, d) == point_key(pool, f, j, slot, d));
         d += 1;
     }
     ok

@@ -3,14 +3,13 @@ use mathlib.Core.Bool.{Bool, true, false, not, _&&_, cond}
 use mathlib.Core.List.{List, [], _∷_, map}
 use Prim.Native.Nat.{ℕ, _+_, _-_, _*_, _≤_, _<_}
 use lib.Dec.{leb, ltb}
-use lib.ListN.{length, drop, set}
+use lib.ListN.{length}
 use lib.Seq.{sets}
 use Rattle.kdb.specs.Lists.{only}
 use Rattle.kdb.specs.Box.{Box, inWindow, meets}
-use Rattle.kdb.specs.Pages.{Ent, readRecs}
+use Rattle.kdb.specs.Pages.{Ent}
 use Rattle.kdb.specs.Walk.{Spot, spots, Tour, still, follow}
-use Rattle.kdb.specs.Calls.{L}
-use Rattle.words.specs.Words.{wordAt}
+use Rattle.words.specs.Words.{wordAt, recordsFrom}
 use Rattle.walk.specs.declared.Tally.{Tally}
 
 -- stopped, with the pages read; or going, with the pages read, the total and the answer's slots
@@ -22,7 +21,7 @@ abbrev pub seen : Tally → List ℕ → St
 seen s out = cond (s .bad) (stopped (s .reads)) (going (s .reads) (s .total) out)
 
 -- the bound is kept, and the total is small
-pub record Fair (n : ℕ) (s : Tally) : Type 0 where
+pub record Kept (n : ℕ) (s : Tally) : Type 0 where
   pub few : s .reads < n
   pub small : s .total ≤ 28 * s .reads
 
@@ -40,24 +39,24 @@ locations ss = map (λ s. s .rec .loc) ss
 abbrev pub noted : ℕ → List ℕ → List Spot → ℕ × List ℕ
 noted t out ss = (t + length ss, sets out t (locations ss))
 
--- of m records of page j, from slot e on at word a, those that the window holds
-abbrev pub held : List ℕ → ℕ → Box → ℕ → ℕ → ℕ → ℕ → List Spot
-held w k v j m e a = only (λ s. inWindow v (s .rec .key)) (spots j e (readRecs k m (drop a w)))
+-- of c records of page j, those from slot e on that the window holds
+abbrev pub held : List ℕ → ℕ → Box → ℕ → ℕ → ℕ → List Spot
+held w k v j c e = only (λ s. inWindow v (s .rec .key)) (spots j e (recordsFrom k w j c e))
 
 abbrev pub foundIn : List ℕ → ℕ → Box → ℕ → ℕ → List ℕ → ℕ × List ℕ
-foundIn w k v j t out = noted t out (held w k v j (wordAt w j 1) 0 (L * j + 4))
+foundIn w k v j t out = noted t out (held w k v j (wordAt w j 1) 0)
 
 -- the state after a tour, stopped at N − 1 reads
-abbrev pub after : ℕ → St → Tour → St
-after N (stopped r) t = stopped r
-after N (going r m out) t =
+abbrev pub movedBy : ℕ → St → Tour → St
+movedBy N (stopped r) t = stopped r
+movedBy N (going r m out) t =
     let reads = r + length (t .read) in
     cond (ltb reads N) (cond (t .bad) (stopped reads) (going reads (m + length (t .found)) (sets out m (locations (t .found))))) (stopped (N - 1))
 
 -- the children of the entries whose regions meet the window, in page order
-abbrev pub met : Box → List Ent → List ℕ
-met v [] = []
-met v (e ∷ es) = cond (meets (e .box) v) (e .child ∷ met v es) (met v es)
+abbrev pub childrenMet : Box → List Ent → List ℕ
+childrenMet v [] = []
+childrenMet v (e ∷ es) = cond (meets (e .box) v) (e .child ∷ childrenMet v es) (childrenMet v es)
 
 -- the tours of these pages in turn
 abbrev pub each : (ℕ → Tour) → List ℕ → Tour

@@ -22,5 +22,5 @@ ended r (absent j) = Absent j r
 ended r (here s) = Here (s .page) (s .slot) (s .rec .loc) r
 
 -- a walk, with r pages read before it
-abbrev pub told : ℕ → Search → Sought
-told r s = ended (r + length (s .read)) (s .end)
+abbrev pub soughtAs : ℕ → Search → Sought
+soughtAs r s = ended (r + length (s .read)) (s .end)

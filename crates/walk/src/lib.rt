@@ -3,6 +3,8 @@ use boxes::in_window;
 use boxes::meets_window;
 use boxes::point_in;
 use boxes::same_keys;
+use kdb::Form;
+use words::domains_of;
 use words::get;
 use words::point_location;
 use words::points_per;
@@ -16,13 +18,13 @@ ghost use lib.Dec.{leb, ltb};
 ghost use lib.ListN.{length, take, drop, set};
 ghost use Rattle.kdb.specs.Lists.{bit};
 ghost use Rattle.kdb.specs.Box.{inWindow};
-ghost use Rattle.kdb.specs.Pages.{readRecs, readEnts};
+ghost use Rattle.kdb.specs.Pages.{readEnts};
 ghost use Rattle.kdb.specs.Walk.{spots, spotOf, seek, findWalk, tour, listWalk};
 ghost use Rattle.kdb.specs.Calls.{L, windowOf};
-ghost use Rattle.words.specs.Words.{Paged, wordAt, keysOf, pointLocation, RecordIn, Fit};
-ghost use Rattle.walk.specs.Pages.{regionWords, pointWords, RegionPage, PointPage};
-ghost use Rattle.walk.specs.Seek.{childOf, ended, told};
-ghost use Rattle.walk.specs.List.{Fair, arrived, foundIn, met, each, seen, after, walked};
+ghost use Rattle.words.specs.Words.{wordAt, keysOf, pointLocation, recordsFrom, RecordIn, Fit};
+ghost use Rattle.walk.specs.Pages.{regionWords, pointWords, EntriesIn, RecordsIn};
+ghost use Rattle.walk.specs.Seek.{childOf, ended, soughtAs};
+ghost use Rattle.walk.specs.List.{Kept, arrived, foundIn, childrenMet, each, seen, movedBy, walked};
 
 // How a search ended: at the record (page, slot, location, pages read), in the point page that lacks the point (page, pages read), at
 // a bad page (pages read), or before it began, for want of a root.
@@ -40,40 +42,41 @@ pub struct Tally {
     pub bad: bool,
 }
 
-fn is_page(n: usize, j: usize) -> bool
-    ensures { λ r. ⌜ r ≡ leb 1 j && ltb j n ⌝ }
+fn is_page(f: Form, j: usize) -> bool
+    ensures { λ r. ⌜ r ≡ leb 1 j && ltb j (f .pages) ⌝ }
 {
-    (1 <= j) & (j < n)
+    (1 <= j) & (j < f.pages)
 }
 
 // Page j is a region page with a count of 1 to R.
-fn region_page(pool: &[u32], n: usize, k: usize, j: usize) -> bool
-    requires { ⌜ Paged (now pool) n × ((1 ≤ k) × (k ≤ 4)) ⌝ }
-    ensures { λ r. ⌜ r ≡ regionWords (now (pool .entry)) k j ⌝ }
+fn region_page(pool: &[u32], f: Form, j: usize) -> bool
+    requires { ⌜ Fit (now pool) f ⌝ }
+    ensures { λ r. ⌜ r ≡ regionWords (now (pool .entry)) (f .domains) j ⌝ }
 {
-    if n <= j {
+    if f.pages <= j {
         return false;
     }
     let count = read(pool, 32 * j + 1);
-    (read(pool, 32 * j) == 1) & (1 <= count) & (count <= regions_per(k))
+    (read(pool, 32 * j) == 1) & (1 <= count) & (count <= regions_per(domains_of(f)))
 }
 
 // Page j is a point page with a count within P.
-fn point_page(pool: &[u32], n: usize, k: usize, j: usize) -> bool
-    requires { ⌜ Paged (now pool) n × ((1 ≤ k) × (k ≤ 4)) ⌝ }
-    ensures { λ r. ⌜ r ≡ pointWords (now (pool .entry)) k j ⌝ }
+fn point_page(pool: &[u32], f: Form, j: usize) -> bool
+    requires { ⌜ Fit (now pool) f ⌝ }
+    ensures { λ r. ⌜ r ≡ pointWords (now (pool .entry)) (f .domains) j ⌝ }
 {
-    if n <= j {
+    if f.pages <= j {
         return false;
     }
-    (read(pool, 32 * j) == 2) & (read(pool, 32 * j + 1) <= points_per(k))
+    (read(pool, 32 * j) == 2) & (read(pool, 32 * j + 1) <= points_per(domains_of(f)))
 }
 
 // The child in the first entry of page j, in page order, whose region holds the point, or 0.
-fn child_for(pool: &[u32], k: usize, point: &[u32], j: usize) -> usize
-    requires { ⌜ RegionPage (now pool) k j × (length (now point) ≡ k) ⌝ }
-    ensures { λ r. ⌜ (r ≡ childOf (now (point .entry)) (readEnts k (wordAt (now (pool .entry)) j 1) (drop (L * j + 4) (now (pool .entry))))) × (r < 2 ^ 32) ⌝ }
+fn child_for(pool: &[u32], f: Form, point: &[u32], j: usize) -> usize
+    requires { ⌜ EntriesIn (now pool) (f .domains) j × (length (now point) ≡ f .domains) ⌝ }
+    ensures { λ r. ⌜ (r ≡ childOf (now (point .entry)) (readEnts (f .domains) (wordAt (now (pool .entry)) j 1) (drop (L * j + 4) (now (pool .entry))))) × (r < 2 ^ 32) ⌝ }
 {
+    let k = domains_of(f);
     let count = read(pool, 32 * j + 1);
     let mut at = 32 * j + 4;
     let mut e: usize = 0;
@@ -88,15 +91,15 @@ fn child_for(pool: &[u32], k: usize, point: &[u32], j: usize) -> usize
 }
 
 // The first record of page j, in page order, with the point's keys.
-fn record_for(pool: &[u32], k: usize, point: &[u32], j: usize, reads: usize) -> Sought
-    requires { ⌜ PointPage (now pool) k j × (length (now point) ≡ k) ⌝ }
-    ensures { λ r. ⌜ r ≡ ended reads (spotOf j (now (point .entry)) (spots j 0 (readRecs k (wordAt (now (pool .entry)) j 1) (drop (L * j + 4) (now (pool .entry)))))) ⌝ }
+fn record_for(pool: &[u32], f: Form, point: &[u32], j: usize, reads: usize) -> Sought
+    requires { ⌜ RecordsIn (now pool) (f .domains) j × (length (now point) ≡ f .domains) ⌝ }
+    ensures { λ r. ⌜ r ≡ ended reads (spotOf j (now (point .entry)) (spots j 0 (recordsFrom (f .domains) (now (pool .entry)) j (wordAt (now (pool .entry)) j 1) 0))) ⌝ }
 {
     let count = read(pool, 32 * j + 1);
     let mut e: usize = 0;
     while e < count {
-        if same_keys(pool, k, j, e, point) {
-            return Sought::Here(j, e, point_location(pool, k, j, e), reads);
+        if same_keys(pool, f, j, e, point) {
+            return Sought::Here(j, e, point_location(pool, f, j, e), reads);
         }
         e += 1;
     }
@@ -104,74 +107,61 @@ fn record_for(pool: &[u32], k: usize, point: &[u32], j: usize, reads: usize) -> 
 }
 
 // The search's last level, at page j.
-fn at_points(pool: &[u32], n: usize, k: usize, point: &[u32], j: usize, reads: usize) -> Sought
-    requires { ⌜ Fit (now pool) n k × ((length (now point) ≡ k) × ((j < 2 ^ 32) × (reads < 2 ^ 32))) ⌝ }
-    ensures { λ r. ⌜ r ≡ told reads (seek L (now (pool .entry)) (now (point .entry)) 0 j) ⌝ }
+fn at_points(pool: &[u32], f: Form, point: &[u32], j: usize, reads: usize) -> Sought
+    requires { ⌜ Fit (now pool) f × ((length (now point) ≡ f .domains) × ((j < 2 ^ 32) × (reads < 2 ^ 32))) ⌝ }
+    ensures { λ r. ⌜ r ≡ soughtAs reads (seek L (now (pool .entry)) (now (point .entry)) 0 j) ⌝ }
 {
-    if !is_page(n, j) {
+    if !is_page(f, j) {
         return Sought::Bad(reads);
     }
-    if !point_page(pool, n, k, j) {
+    if !point_page(pool, f, j) {
         return Sought::Bad(reads + 1);
     }
-    record_for(pool, k, point, j, reads + 1)
+    record_for(pool, f, point, j, reads + 1)
 }
 
 // From page j down: at each level into the first entry that holds the point.
-fn descend(pool: &[u32], n: usize, k: usize, point: &[u32], root: usize, levels: usize) -> Sought
-    requires { ⌜ Fit (now pool) n k × ((length (now point) ≡ k) × ((root < 2 ^ 32) × (levels < 2 ^ 32))) ⌝ }
-    ensures { λ r. ⌜ r ≡ told 0 (seek L (now (pool .entry)) (now (point .entry)) (levels - 1) root) ⌝ }
+fn descend(pool: &[u32], f: Form, point: &[u32], root: usize, levels: usize) -> Sought
+    requires { ⌜ Fit (now pool) f × ((length (now point) ≡ f .domains) × ((root < 2 ^ 32) × (levels < 2 ^ 32))) ⌝ }
+    ensures { λ r. ⌜ r ≡ soughtAs 0 (seek L (now (pool .entry)) (now (point .entry)) (levels - 1) root) ⌝ }
 {
     let mut j = root;
     let mut left = levels;
     let mut reads: usize = 0;
     while 1 < left {
-        if !is_page(n, j) {
+        if !is_page(f, j) {
             return Sought::Bad(reads);
         }
-        if !region_page(pool, n, k, j) {
+        if !region_page(pool, f, j) {
             return Sought::Bad(reads + 1);
         }
-        j = child_for(pool, k, point, j);
+        j = child_for(pool, f, point, j);
         left -= 1;
         reads += 1;
     }
-    at_points(pool, n, k, point, j, reads)
+    at_points(pool, f, point, j, reads)
 }
 
-// k itself, of which the compiler then knows that it is 1 to 4.
-fn domains(k: usize) -> usize
-    requires { ⌜ (1 ≤ k) × (k ≤ 4) ⌝ }
-    ensures { λ r. ⌜ r ≡ k ⌝ }
-{
-    match k {
-        1 => 1,
-        2 => 2,
-        3 => 3,
-        _ => 4,
-    }
-}
-
-// The search for a point in a pool of n pages with a good header.
-pub fn search(pool: &[u32], n: usize, k: usize, point: &[u32]) -> Sought
-    requires { ⌜ Fit (now pool) n k × (length (now point) ≡ k) ⌝ }
-    ensures { λ r. ⌜ r ≡ told 0 (findWalk L (now (pool .entry)) (now (point .entry))) ⌝ }
+// The search for a point in a pool of form f with a good header.
+pub fn search(pool: &[u32], f: Form, point: &[u32]) -> Sought
+    requires { ⌜ Fit (now pool) f × (length (now point) ≡ f .domains) ⌝ }
+    ensures { λ r. ⌜ r ≡ soughtAs 0 (findWalk L (now (pool .entry)) (now (point .entry))) ⌝ }
 {
     let levels = get(pool, 3);
     if levels == 0 {
         return Sought::NoRoot;
     }
-    descend(pool, n, domains(k), point, get(pool, 2), levels)
+    descend(pool, f, point, get(pool, 2), levels)
 }
 
 // Before page j is looked at: it counts as read, if it is a page and the bound allows one more; else the walk stops.
-fn arrive(n: usize, j: usize, s: Tally) -> Tally
-    requires { ⌜ (n ≤ 512) × Fair n s ⌝ }
-    ensures { λ r. ⌜ (r ≡ arrived n j true s) × Fair n r ⌝ }
+fn arrive(f: Form, j: usize, s: Tally) -> Tally
+    requires { ⌜ (f .pages ≤ 512) × Kept (f .pages) s ⌝ }
+    ensures { λ r. ⌜ (r ≡ arrived (f .pages) j true s) × Kept (f .pages) r ⌝ }
 {
     let reads = s.reads;
     let total = s.total;
-    if !s.bad & is_page(n, j) & (reads + 1 < n) {
+    if !s.bad & is_page(f, j) & (reads + 1 < f.pages) {
         Tally {
             reads: reads + 1,
             total,
@@ -205,19 +195,19 @@ fn either(holds: bool, one: usize, other: usize) -> usize
 // records decide no branch.
 fn visit(
     pool: &[u32],
-    k: usize,
+    f: Form,
     window: &[u32],
     answer: &mut [u32],
     j: usize,
     slot: usize,
     total: usize,
 ) -> usize
-    requires { ⌜ RecordIn (now pool) k j slot × ((length (now window) ≡ 2 * k) × (total < 2 ^ 40)) ⌝ }
-    ensures { λ r. ⌜ (r ≡ cond (inWindow (windowOf k (now (window .entry))) (keysOf k (now (pool .entry)) j slot)) (total + 1) total)
-        × ((now (answer .exit) ≡ cond (inWindow (windowOf k (now (window .entry))) (keysOf k (now (pool .entry)) j slot)) (set (now (answer .entry)) total (pointLocation (now (pool .entry)) k j slot)) (now (answer .entry))) × (r ≤ total + 1)) ⌝ }
+    requires { ⌜ RecordIn (now pool) (f .domains) j slot × ((length (now window) ≡ 2 * f .domains) × (total < 2 ^ 40)) ⌝ }
+    ensures { λ r. ⌜ (r ≡ cond (inWindow (windowOf (f .domains) (now (window .entry))) (keysOf (f .domains) (now (pool .entry)) j slot)) (total + 1) total)
+        × ((now (answer .exit) ≡ cond (inWindow (windowOf (f .domains) (now (window .entry))) (keysOf (f .domains) (now (pool .entry)) j slot)) (set (now (answer .entry)) total (pointLocation (now (pool .entry)) (f .domains) j slot)) (now (answer .entry))) × (r ≤ total + 1)) ⌝ }
 {
-    let held = in_window(pool, k, j, slot, window);
-    let location = point_location(pool, k, j, slot);
+    let held = in_window(pool, f, j, slot, window);
+    let location = point_location(pool, f, j, slot);
     let old = get(answer, total);
     put(answer, total, either(held, location, old));
     total + one(held)
@@ -226,45 +216,37 @@ fn visit(
 // The records of point page j that the window holds.
 fn list_points(
     pool: &[u32],
-    k: usize,
+    f: Form,
     window: &[u32],
     answer: &mut [u32],
     j: usize,
     total: usize,
 ) -> usize
-    requires { ⌜ PointPage (now pool) k j × ((length (now window) ≡ 2 * k) × (total < 2 ^ 32)) ⌝ }
-    ensures { λ r. ⌜ ((r, now (answer .exit)) ≡ foundIn (now (pool .entry)) k (windowOf k (now (window .entry))) j total (now (answer .entry))) × (r ≤ total + 28) ⌝ }
+    requires { ⌜ RecordsIn (now pool) (f .domains) j × ((length (now window) ≡ 2 * f .domains) × (total < 2 ^ 32)) ⌝ }
+    ensures { λ r. ⌜ ((r, now (answer .exit)) ≡ foundIn (now (pool .entry)) (f .domains) (windowOf (f .domains) (now (window .entry))) j total (now (answer .entry))) × (r ≤ total + 28) ⌝ }
 {
     let count = read(pool, 32 * j + 1);
     let mut t = total;
     let mut e: usize = 0;
     while e < count {
-        t = visit(pool, k, window, answer, j, e, t);
+        t = visit(pool, f, window, answer, j, e, t);
         e += 1;
     }
     t
 }
 
 // A page of the last level.
-fn list_leaf(
-    pool: &[u32],
-    n: usize,
-    k: usize,
-    window: &[u32],
-    answer: &mut [u32],
-    j: usize,
-    s: Tally,
-) -> Tally
-    requires { ⌜ Fit (now pool) n k × ((length (now window) ≡ 2 * k) × ((j < 2 ^ 32) × Fair n s)) ⌝ }
-    ensures { λ r. ⌜ (seen r (now (answer .exit)) ≡ after n (seen s (now (answer .entry))) (tour L (now (pool .entry)) (windowOf k (now (window .entry))) 0 j)) × Fair n r ⌝ }
+fn list_leaf(pool: &[u32], f: Form, window: &[u32], answer: &mut [u32], j: usize, s: Tally) -> Tally
+    requires { ⌜ Fit (now pool) f × ((length (now window) ≡ 2 * f .domains) × ((j < 2 ^ 32) × Kept (f .pages) s)) ⌝ }
+    ensures { λ r. ⌜ (seen r (now (answer .exit)) ≡ movedBy (f .pages) (seen s (now (answer .entry))) (tour L (now (pool .entry)) (windowOf (f .domains) (now (window .entry))) 0 j)) × Kept (f .pages) r ⌝ }
 {
-    let t = arrive(n, j, s);
+    let t = arrive(f, j, s);
     if t.bad {
         return t;
     }
     let reads = t.reads;
     let total = t.total;
-    if !point_page(pool, n, k, j) {
+    if !point_page(pool, f, j) {
         return Tally {
             reads,
             total,
@@ -273,17 +255,18 @@ fn list_leaf(
     }
     Tally {
         reads,
-        total: list_points(pool, k, window, answer, j, total),
+        total: list_points(pool, f, window, answer, j, total),
         bad: false,
     }
 }
 
 // The children of region page j whose regions meet the window, in page order, to the front of `child`: how many. Every entry's child is
 // written, and the next one over it if it does not meet: the regions decide no branch.
-fn meeting(pool: &[u32], k: usize, window: &[u32], j: usize, child: &mut [u32]) -> usize
-    requires { ⌜ (1 ≤ k) × (RegionPage (now pool) k j × ((length (now window) ≡ 2 * k) × (9 ≤ length (now child)))) ⌝ }
-    ensures { λ r. ⌜ (take r (now (child .exit)) ≡ met (windowOf k (now (window .entry))) (readEnts k (wordAt (now (pool .entry)) j 1) (drop (L * j + 4) (now (pool .entry))))) × (r ≤ 9) ⌝ }
+fn meeting(pool: &[u32], f: Form, window: &[u32], j: usize, child: &mut [u32]) -> usize
+    requires { ⌜ EntriesIn (now pool) (f .domains) j × ((length (now window) ≡ 2 * f .domains) × (9 ≤ length (now child))) ⌝ }
+    ensures { λ r. ⌜ (take r (now (child .exit)) ≡ childrenMet (windowOf (f .domains) (now (window .entry))) (readEnts (f .domains) (wordAt (now (pool .entry)) j 1) (drop (L * j + 4) (now (pool .entry))))) × (r ≤ 9) ⌝ }
 {
+    let k = domains_of(f);
     let count = read(pool, 32 * j + 1);
     let mut m: usize = 0;
     let mut at = 32 * j + 4;
@@ -300,21 +283,20 @@ fn meeting(pool: &[u32], k: usize, window: &[u32], j: usize, child: &mut [u32]) 
 // The first m of these pages, all of the last level.
 fn list_leaves(
     pool: &[u32],
-    n: usize,
-    k: usize,
+    f: Form,
     window: &[u32],
     answer: &mut [u32],
     child: &[u32],
     m: usize,
     s: Tally,
 ) -> Tally
-    requires { ⌜ Fit (now pool) n k × ((length (now window) ≡ 2 * k) × ((m ≤ length (now child)) × Fair n s)) ⌝ }
-    ensures { λ r. ⌜ (seen r (now (answer .exit)) ≡ after n (seen s (now (answer .entry))) (each (tour L (now (pool .entry)) (windowOf k (now (window .entry))) 0) (take m (now (child .entry))))) × Fair n r ⌝ }
+    requires { ⌜ Fit (now pool) f × ((length (now window) ≡ 2 * f .domains) × ((m ≤ length (now child)) × Kept (f .pages) s)) ⌝ }
+    ensures { λ r. ⌜ (seen r (now (answer .exit)) ≡ movedBy (f .pages) (seen s (now (answer .entry))) (each (tour L (now (pool .entry)) (windowOf (f .domains) (now (window .entry))) 0) (take m (now (child .entry))))) × Kept (f .pages) r ⌝ }
 {
     let mut t = s;
     let mut i: usize = 0;
     while (i < m) & !t.bad {
-        t = list_leaf(pool, n, k, window, answer, read(child, i), t);
+        t = list_leaf(pool, f, window, answer, read(child, i), t);
         i += 1;
     }
     t
@@ -323,22 +305,21 @@ fn list_leaves(
 // A region page, and before the next page the pages below it that meet the window.
 fn list_page(
     pool: &[u32],
-    n: usize,
-    k: usize,
+    f: Form,
     window: &[u32],
     answer: &mut [u32],
     level: usize,
     j: usize,
     s: Tally,
 ) -> Tally
-    requires { ⌜ Fit (now pool) n k × ((length (now window) ≡ 2 * k) × ((1 < level) × ((j < 2 ^ 32) × Fair n s))) ⌝ }
-    ensures { λ r. ⌜ (seen r (now (answer .exit)) ≡ after n (seen s (now (answer .entry))) (tour L (now (pool .entry)) (windowOf k (now (window .entry))) (level - 1) j)) × Fair n r ⌝ }
+    requires { ⌜ Fit (now pool) f × ((length (now window) ≡ 2 * f .domains) × ((1 < level) × ((j < 2 ^ 32) × Kept (f .pages) s))) ⌝ }
+    ensures { λ r. ⌜ (seen r (now (answer .exit)) ≡ movedBy (f .pages) (seen s (now (answer .entry))) (tour L (now (pool .entry)) (windowOf (f .domains) (now (window .entry))) (level - 1) j)) × Kept (f .pages) r ⌝ }
 {
-    let mut t = arrive(n, j, s);
+    let mut t = arrive(f, j, s);
     if t.bad {
         return t;
     }
-    if !region_page(pool, n, k, j) {
+    if !region_page(pool, f, j) {
         return Tally {
             reads: t.reads,
             total: t.total,
@@ -346,22 +327,22 @@ fn list_page(
         };
     }
     let mut child = [0u32; 9];
-    let m = meeting(pool, k, window, j, &mut child);
+    let m = meeting(pool, f, window, j, &mut child);
     if level <= 2 {
-        return list_leaves(pool, n, k, window, answer, &child, m, t);
+        return list_leaves(pool, f, window, answer, &child, m, t);
     }
     let mut i: usize = 0;
     while (i < m) & !t.bad {
-        t = list_page(pool, n, k, window, answer, level - 1, read(&child, i), t);
+        t = list_page(pool, f, window, answer, level - 1, read(&child, i), t);
         i += 1;
     }
     t
 }
 
-// List's walk of a window in a pool of n pages with a good header, its reads limited by n - 1.
-pub fn list_walk(pool: &[u32], n: usize, k: usize, window: &[u32], answer: &mut [u32]) -> Tally
-    requires { ⌜ Fit (now pool) n k × (length (now window) ≡ 2 * k) ⌝ }
-    ensures { λ r. ⌜ seen r (now (answer .exit)) ≡ walked (now (answer .entry)) (listWalk L (now (pool .entry)) (windowOf k (now (window .entry)))) ⌝ }
+// List's walk of a window in a pool of form f with a good header, its reads limited by the pages less 1.
+pub fn list_walk(pool: &[u32], f: Form, window: &[u32], answer: &mut [u32]) -> Tally
+    requires { ⌜ Fit (now pool) f × (length (now window) ≡ 2 * f .domains) ⌝ }
+    ensures { λ r. ⌜ seen r (now (answer .exit)) ≡ walked (now (answer .entry)) (listWalk L (now (pool .entry)) (windowOf (f .domains) (now (window .entry)))) ⌝ }
 {
     let levels = get(pool, 3);
     let s = Tally {
@@ -373,9 +354,8 @@ pub fn list_walk(pool: &[u32], n: usize, k: usize, window: &[u32], answer: &mut 
         return s;
     }
     let root = get(pool, 2);
-    let d = domains(k);
     if levels <= 1 {
-        return list_leaf(pool, n, d, window, answer, root, s);
+        return list_leaf(pool, f, window, answer, root, s);
     }
-    list_page(pool, n, d, window, answer, levels, root, s)
+    list_page(pool, f, window, answer, levels, root, s)
 }

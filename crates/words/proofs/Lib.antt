@@ -1,3 +1,4 @@
 pub mod Loops
 pub mod Table
+pub mod Slots
 pub mod Laws

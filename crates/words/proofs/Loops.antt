@@ -4,7 +4,6 @@ use mathlib.Core.Bool.{Bool, _&&_}
 use mathlib.Core.List.{List, [], _∷_}
 use mathlib.Core.Path.{_≡_, refl, sym, ap, ap₂, _∙_}
 use native.Mathlib.Omega.{arith}
-use native.Mathlib.Nat.{mul-le-mul-left}
 use native.Mathlib.Numerals.{add-one}
 use lib.Dec.{leb, leb→le, nleb→lt}
 use lib.ListN.{length, take, drop, getD, set, replicate, length-drop, length-replicate, List·getD-eq-default}
@@ -85,7 +84,3 @@ module _ (w : List ℕ) (n j : ℕ) where
 
   pub free-next : j < n → (wordAt w j 0 ≡ 0 → ⊥) → firstOr n (freeFrom w (n - j) j) ≡ firstOr n (freeFrom w (n - (j + 1)) (j + 1))
   free-next h z = let q : n - j ≡ suc (n - (j + 1)) = omega arith in rw (q, ne-eqb _ _ z, add-one j)
-
--- a slot's place is not far
-pub slot-near : (e k : ℕ) → k ≤ 4 → e * (k + 1) ≤ e * 5
-slot-near e k h = mul-le-mul-left e (omega arith)

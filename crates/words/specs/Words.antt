@@ -7,7 +7,8 @@ use lib.Dec.{eqb}
 use lib.ListN.{length, take, drop, getD}
 use Rattle.kdb.specs.Lists.{only, upFrom}
 use Rattle.kdb.specs.Box.{Box, Key, sides}
-use Rattle.kdb.specs.Pages.{regionsPer, pointsPer}
+use Rattle.kdb.specs.Tree.{Rec}
+use Rattle.kdb.specs.Pages.{regionsPer, pointsPer, readRecs}
 use Rattle.kdb.specs.Pool.{domains, pagesIn, goodLength}
 use Rattle.kdb.specs.Calls.{L}
 use Rattle.kdb.specs.declared.Form.{Form}
@@ -50,15 +51,18 @@ abbrev pub capacityOf : ℕ → ℕ → ℕ
 capacityOf zero k = regionsPer L k
 capacityOf (suc kind) k = pointsPer L k
 
--- where the record in slot e of page j begins; its keys, then its location
-abbrev pub pointAt : ℕ → ℕ → ℕ → ℕ
-pointAt k j e = L * j + 4 + e * (k + 1)
+-- where key d of the record in slot e of page j stands, and its location, behind its keys
+abbrev pub keyAt : ℕ → ℕ → ℕ → ℕ → ℕ
+keyAt k j e d = L * j + 4 + e * (k + 1) + d
+
+abbrev pub locationAt : ℕ → ℕ → ℕ → ℕ
+locationAt k j e = keyAt k j e k
 
 abbrev pub pointKey : List ℕ → ℕ → ℕ → ℕ → ℕ → ℕ
-pointKey w k j e d = getD w (pointAt k j e + d) 0
+pointKey w k j e d = getD w (keyAt k j e d) 0
 
 abbrev pub pointLocation : List ℕ → ℕ → ℕ → ℕ → ℕ
-pointLocation w k j e = getD w (pointAt k j e + k) 0
+pointLocation w k j e = getD w (locationAt k j e) 0
 
 -- the first of a list, or n
 abbrev pub firstOr : ℕ → List ℕ → ℕ
@@ -78,7 +82,11 @@ abbrev pub regionAt : ℕ → List ℕ → ℕ → Box
 regionAt k w a = sides (take k (drop a w)) (take k (drop (a + k) w))
 
 abbrev pub keysOf : ℕ → List ℕ → ℕ → ℕ → Key
-keysOf k w j e = take k (drop (pointAt k j e) w)
+keysOf k w j e = take k (drop (keyAt k j e 0) w)
+
+-- of c records of page j, those from slot e on
+abbrev pub recordsFrom : ℕ → List ℕ → ℕ → ℕ → ℕ → List Rec
+recordsFrom k w j c e = readRecs k (c - e) (drop (keyAt k j e 0) w)
 
 -- the region at word a, and the record in slot e of page j, with its location, end within the pool
 pub record RegionIn (w : List ℕ) (k a : ℕ) : Type 0 where
@@ -87,7 +95,8 @@ pub record RegionIn (w : List ℕ) (k a : ℕ) : Type 0 where
   pub ends : a + 2 * k ≤ length w
 
 pub record RecordIn (w : List ℕ) (k j e : ℕ) : Type 0 where
+  pub some : 1 ≤ k
   pub few : k ≤ 4
   pub page : j < 2 ^ 32
   pub slot : e < 2 ^ 32
-  pub ends : pointAt k j e + k < length w
+  pub ends : locationAt k j e < length w

@@ -6,7 +6,7 @@ ghost use lib.ListN.{length, getD, set, replicate};
 ghost use lib.Seq.{sets};
 ghost use Rattle.kdb.specs.Pool.{pagesIn, goodHeader, GoodLength};
 ghost use Rattle.kdb.specs.Calls.{L, finite};
-ghost use Rattle.words.specs.Words.{wordAt, pageCount, formOf, capacityOf, pointAt, pointLocation, lowestFree, allZero, RegionIn, RecordIn};
+ghost use Rattle.words.specs.Words.{wordAt, pageCount, formOf, capacityOf, keyAt, locationAt, pointKey, pointLocation, lowestFree, allZero, RegionIn, RecordIn};
 
 // Regions and points a page, by K from 1 to 4.
 const CAPACITIES: [[u32; 4]; 2] = [[9, 5, 4, 3], [14, 9, 7, 5]];
@@ -158,20 +158,44 @@ pub fn points_per(k: usize) -> usize
     capacity(1, k)
 }
 
-// The word at which the record in a slot of point page j begins: its keys, then its location.
-pub fn point_at(k: usize, j: usize, slot: usize) -> usize
-    requires { ⌜ (k ≤ 4) × ((j < 2 ^ 32) × (slot < 2 ^ 32)) ⌝ }
-    ensures { λ r. ⌜ (r ≡ pointAt k j slot) × (r < 2 ^ 40) ⌝ }
+// The domains of a form: from here on the compiler knows that they are 1 to 4.
+pub fn domains_of(f: Form) -> usize
+    requires { ⌜ (1 ≤ f .domains) × (f .domains ≤ 4) ⌝ }
+    ensures { λ r. ⌜ r ≡ f .domains ⌝ }
 {
-    32 * j + 4 + slot * (k + 1)
+    smaller(f.domains - 1, 3) + 1
+}
+
+// Where key d of the record in a slot of point page j stands: a record is its keys, then its location.
+pub fn key_at(f: Form, j: usize, slot: usize, d: usize) -> usize
+    requires { ⌜ (f .domains ≤ 4) × ((j < 2 ^ 32) × ((slot < 2 ^ 32) × (d ≤ f .domains))) ⌝ }
+    ensures { λ r. ⌜ r ≡ keyAt (f .domains) j slot d ⌝ }
+{
+    32 * j + 4 + slot * (f.domains + 1) + d
+}
+
+// Where its location stands.
+pub fn location_at(f: Form, j: usize, slot: usize) -> usize
+    requires { ⌜ (f .domains ≤ 4) × ((j < 2 ^ 32) × (slot < 2 ^ 32)) ⌝ }
+    ensures { λ r. ⌜ r ≡ locationAt (f .domains) j slot ⌝ }
+{
+    key_at(f, j, slot, f.domains)
+}
+
+// Key d of the record in a slot of point page j.
+pub fn point_key(pool: &[u32], f: Form, j: usize, slot: usize, d: usize) -> usize
+    requires { ⌜ RecordIn (now pool) (f .domains) j slot × (d < f .domains) ⌝ }
+    ensures { λ r. ⌜ (r ≡ pointKey (now (pool .entry)) (f .domains) j slot d) × (r < 2 ^ 32) ⌝ }
+{
+    read(pool, key_at(f, j, slot, d))
 }
 
 // The location of the record in a slot of point page j.
-pub fn point_location(pool: &[u32], k: usize, j: usize, slot: usize) -> usize
-    requires { ⌜ RecordIn (now pool) k j slot ⌝ }
-    ensures { λ r. ⌜ (r ≡ pointLocation (now (pool .entry)) k j slot) × (r < 2 ^ 32) ⌝ }
+pub fn point_location(pool: &[u32], f: Form, j: usize, slot: usize) -> usize
+    requires { ⌜ RecordIn (now pool) (f .domains) j slot ⌝ }
+    ensures { λ r. ⌜ (r ≡ pointLocation (now (pool .entry)) (f .domains) j slot) × (r < 2 ^ 32) ⌝ }
 {
-    read(pool, point_at(k, j, slot) + k)
+    read(pool, location_at(f, j, slot))
 }
 
 // The lower end in domain d of the region at word `at`.

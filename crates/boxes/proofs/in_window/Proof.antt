@@ -15,31 +15,28 @@ use Rattle.boxes.proofs.in_window.Statement.{statement}
 use Rattle.boxes.proofs.in_window.Tie as tie
 
 abbrev Inv-loop : tie.InvT-loop
-Inv-loop pool k j slot window at ok₀ d₀ ok d = (d ≤ k) × (allBy (k - d) (seenAt pool k j slot window) 1 d ok ≡ inWindow (windowOf k window) (keysOf k pool j slot))
+Inv-loop pool f j slot window k ok₀ d₀ ok d = (d ≤ f .domains) × (allBy (f .domains - d) (seenAt pool (f .domains) j slot window) 1 d ok ≡ inWindow (windowOf (f .domains) window) (keysOf (f .domains) pool j slot))
 
 abbrev μ-loop : tie.MeasureT-loop
-μ-loop pool k j slot window at ok₀ d₀ ok d = k - d
+μ-loop pool f j slot window k ok₀ d₀ ok d = f .domains - d
 
-point-at-requires : tie.Need-point-at-requires Inv-loop μ-loop
-point-at-requires c κs = search needs
+domains-of-requires : tie.Need-domains-of-requires Inv-loop μ-loop
+domains-of-requires c κs = search needs
 
 loop-holds : tie.Need-loop-holds Inv-loop μ-loop
-loop-holds c = let a = c .before .before .before .args in (omega arith, rw (sub-zero (a .k)) (tests.in-window (a .k) (a .window .now) (c .before .before .before .pre .1) (a .pool .now) (a .j) (a .slot) (c .before .before .before .pre .0)))
+loop-holds c = let a = c .before .before .before .args in (omega arith, rw (sub-zero (a .f .domains)) (tests.in-window (a .f .domains) (a .window .now) (c .before .before .before .pre .1) (a .pool .now) (a .j) (a .slot) (c .before .before .before .pre .0)))
 
-add-read : tie.Need-add-read Inv-loop μ-loop
-add-read c = search needs
+point-key-requires : tie.Need-point-key-requires Inv-loop μ-loop
+point-key-requires c κs = search needs
 
 read-requires : tie.Need-read-requires Inv-loop μ-loop
 read-requires c κs = search needs
 
+add-read : tie.Need-add-read Inv-loop μ-loop
+add-read c = search needs
+
 read-requires-2 : tie.Need-read-requires-2 Inv-loop μ-loop
 read-requires-2 c κs = search needs
-
-add-read-2 : tie.Need-add-read-2 Inv-loop μ-loop
-add-read-2 c = search needs
-
-read-requires-3 : tie.Need-read-requires-3 Inv-loop μ-loop
-read-requires-3 c κs = search needs
 
 add-d : tie.Need-add-d Inv-loop μ-loop
 add-d c = search needs
@@ -48,7 +45,7 @@ loop-less : tie.Need-loop-less Inv-loop μ-loop
 loop-less c = search needs
 
 loop-again : tie.Need-loop-again Inv-loop μ-loop
-loop-again c = (omega arith, rw (c .before .before .read .ensures .0, c .before .before .before .before .before .point-at .ensures .0, c .before .read2 .ensures .0, c .read3 .ensures .0) (all-next _ _ _ _ _ _ _ (c .before .before .before .before .loop .inv .1) (omega arith)))
+loop-again c = (omega arith, rw (c .before .before .point-key .ensures .0, c .before .read .ensures .0, c .read2 .ensures .0, c .before .before .before .before .before .domains-of .ensures) (all-next _ _ _ _ _ _ _ (c .before .before .before .before .loop .inv .1) (omega arith)))
 
 returns : tie.Need-returns Inv-loop μ-loop
 returns c = all-end _ _ _ _ _ _ _ (c .before .loop .inv .1) (omega arith)
@@ -59,13 +56,12 @@ in-window-spec =
     (tie.spec
     Inv-loop
     μ-loop
-    point-at-requires
+    domains-of-requires
     loop-holds
-    add-read
+    point-key-requires
     read-requires
+    add-read
     read-requires-2
-    add-read-2
-    read-requires-3
     add-d
     loop-less
     loop-again

@@ -1,7 +1,7 @@
 -- `walk::list_page` meets its contract: by the level; the state after the pages passed, then those left, is the state after all.
 use Rattle.walk.proofs.List.{stops-before, stops-at, enters, page-bad, page-in, page-good, not-all, each-end, each-next}
 use Rattle.walk.specs.Pages.{regionWords}
-use Rattle.walk.specs.List.{Fair, seen, each, after}
+use Rattle.walk.specs.List.{Kept, seen, each, movedBy}
 use Rattle.kdb.specs.Calls.{L, windowOf}
 use Rattle.kdb.specs.Walk.{tour}
 use lib.ListN.{length, take, drop}
@@ -26,7 +26,7 @@ use Rattle.walk.proofs.+list_page.{statement}
 use Rattle.walk.proofs.+list_page.Tie.{close}
 
 abbrev μ-list-page : Measures 3 list-page-kinds.ps ℕ
-μ-list-page κs a = a .1 .1 .1 .1 .1 .0
+μ-list-page κs a = a .1 .1 .1 .1 .0
 
 abbrev list-page-at : ℕ → In 3 list-page-kinds.ps
 list-page-at t = and 3 list-page-kinds.ps (is 3 list-page-kinds.ps μ-list-page t) list-page.Pre
@@ -39,34 +39,34 @@ abbrev list-page-calls : ℕ → list-page-lts.Claims
 list-page-calls t = (arrive-reads.Asked, arrive-reads.Learnt, region-page-reads.Asked, region-page-reads.Learnt, meeting-reads.Asked, meeting-reads.Learnt, list-leaves-reads.Asked, list-leaves-reads.Learnt, read-reads.Asked, read-reads.Learnt, list-page-below t, list-page.Post)
 
 abbrev list-page-Inv-loop : list-page-lts.InvT-loop
-list-page-Inv-loop pool n k window answer₀ level j t₀ child m i₀ answer t i = (length answer ≡ length answer₀) × Fair n t
-    × (after n (seen t answer) (each (tour L pool (windowOf k window) (level - 1 - 1)) (take (m - i) (drop i child)))
-    ≡ after n (seen t₀ answer₀) (each (tour L pool (windowOf k window) (level - 1 - 1)) (take m child)))
+list-page-Inv-loop pool f window answer₀ level j t₀ child m i₀ answer t i = (length answer ≡ length answer₀) × Kept (f .pages) t
+    × (movedBy (f .pages) (seen t answer) (each (tour L pool (windowOf (f .domains) window) (level - 1 - 1)) (take (m - i) (drop i child)))
+    ≡ movedBy (f .pages) (seen t₀ answer₀) (each (tour L pool (windowOf (f .domains) window) (level - 1 - 1)) (take m child)))
 
 abbrev list-page-μ-loop : list-page-lts.MeasureT-loop
-list-page-μ-loop pool n k window answer₀ level j t₀ child m i₀ answer t i = m - i
+list-page-μ-loop pool f window answer₀ level j t₀ child m i₀ answer t i = m - i
 
 list-page-arrive-requires : (t : ℕ) → list-page-lts.Need-arrive-requires (list-page-calls t) (list-page-at t) list-page.Post list-page-Inv-loop list-page-μ-loop
-list-page-arrive-requires t c κs = let p = c .before .before .before .pre .1 in (p .0 .paged .most, p .1 .1 .1 .1)
+list-page-arrive-requires t c κs = let p = c .before .before .before .pre .1 in (p .0 .formed .most, p .1 .1 .1 .1)
 
 list-page-returns : (t : ℕ) → list-page-lts.Need-returns (list-page-calls t) (list-page-at t) list-page.Post list-page-Inv-loop list-page-μ-loop
 list-page-returns t c = let a = c .before .before .before .before .before .args in
     let p = c .before .before .before .before .before .pre .1 in
-    let v = windowOf (a .k) (a .window .now) in
+    let v = windowOf (a .f .domains) (a .window .now) in
     let u = c .before .arrive in
-    let e = stops-before (a .n) (a .j) (regionWords (a .pool .now) (a .k) (a .j)) (a .s) (u .result) (u .ensures .0) (c .if1 .taken) in
-    (page-bad (a .pool .now) (a .n) (a .k) (p .0) v (a .j) (a .s) (p .1 .1 .1 .1) (a .answer .now) (a .level) (p .1 .1 .0) (u .result) e (c .if1 .taken), u .ensures .1)
+    let e = stops-before (a .f .pages) (a .j) (regionWords (a .pool .now) (a .f .domains) (a .j)) (a .s) (u .result) (u .ensures .0) (c .if1 .taken) in
+    (page-bad (a .pool .now) (a .f) (p .0) v (a .j) (a .s) (p .1 .1 .1 .1) (a .answer .now) (a .level) (p .1 .1 .0) (u .result) e (c .if1 .taken), u .ensures .1)
 
 list-page-region-page-requires : (t : ℕ) → list-page-lts.Need-region-page-requires (list-page-calls t) (list-page-at t) list-page.Post list-page-Inv-loop list-page-μ-loop
-list-page-region-page-requires t c κs = let p = c .before .before .before .before .before .pre .1 in (p .0 .paged, (p .0 .least, p .0 .few))
+list-page-region-page-requires t c κs = c .before .before .before .before .before .pre .1 .0
 
 list-page-returns-2 : (t : ℕ) → list-page-lts.Need-returns-2 (list-page-calls t) (list-page-at t) list-page.Post list-page-Inv-loop list-page-μ-loop
 list-page-returns-2 t c = let a = c .before .before .before .before .before .before .before .args in
     let p = c .before .before .before .before .before .before .before .pre .1 in
-    let v = windowOf (a .k) (a .window .now) in
+    let v = windowOf (a .f .domains) (a .window .now) in
     let u = c .before .before .before .arrive in
-    let e = stops-at (a .n) (a .j) (regionWords (a .pool .now) (a .k) (a .j)) (a .s) (u .result) (u .ensures .0) (sym (c .before .region-page .ensures) ∙ not-true _ (c .if2 .taken)) (c .before .before .if1 .left) in
-    (page-bad (a .pool .now) (a .n) (a .k) (p .0) v (a .j) (a .s) (p .1 .1 .1 .1) (a .answer .now) (a .level) (p .1 .1 .0) _ e refl, record { few = u .ensures .1 .few; small = u .ensures .1 .small })
+    let e = stops-at (a .f .pages) (a .j) (regionWords (a .pool .now) (a .f .domains) (a .j)) (a .s) (u .result) (u .ensures .0) (sym (c .before .region-page .ensures) ∙ not-true _ (c .if2 .taken)) (c .before .before .if1 .left) in
+    (page-bad (a .pool .now) (a .f) (p .0) v (a .j) (a .s) (p .1 .1 .1 .1) (a .answer .now) (a .level) (p .1 .1 .0) _ e refl, record { few = u .ensures .1 .few; small = u .ensures .1 .small })
 
 list-page-slice-aggregate-meeting : (t : ℕ) → list-page-lts.Need-slice-aggregate-meeting (list-page-calls t) (list-page-at t) list-page.Post list-page-Inv-loop list-page-μ-loop
 list-page-slice-aggregate-meeting t c = search needs
@@ -74,10 +74,10 @@ list-page-slice-aggregate-meeting t c = search needs
 list-page-meeting-requires : (t : ℕ) → list-page-lts.Need-meeting-requires (list-page-calls t) (list-page-at t) list-page.Post list-page-Inv-loop list-page-μ-loop
 list-page-meeting-requires t c κs = let a = c .before .before .before .before .before .before .before .before .args in
     let p = c .before .before .before .before .before .before .before .before .pre .1 in
-    let v = windowOf (a .k) (a .window .now) in
+    let v = windowOf (a .f .domains) (a .window .now) in
     let u = c .before .before .before .before .arrive in
-    let e = enters (a .n) (a .j) (regionWords (a .pool .now) (a .k) (a .j)) (a .s) (u .result) (u .ensures .0) (sym (c .before .before .region-page .ensures) ∙ not-false _ (c .before .if2 .left)) in
-    (p .0 .least, (page-in (a .pool .now) (a .n) (a .k) (p .0) v (a .j) (a .s) (p .1 .1 .1 .1) (a .answer .now) (a .level) (p .1 .1 .0) (u .result) e (c .before .before .before .if1 .left) .0, (p .1 .0, omega arith)))
+    let e = enters (a .f .pages) (a .j) (regionWords (a .pool .now) (a .f .domains) (a .j)) (a .s) (u .result) (u .ensures .0) (sym (c .before .before .region-page .ensures) ∙ not-false _ (c .before .if2 .left)) in
+    (page-in (a .pool .now) (a .f) (p .0) v (a .j) (a .s) (p .1 .1 .1 .1) (a .answer .now) (a .level) (p .1 .1 .0) (u .result) e (c .before .before .before .if1 .left) .0, (p .1 .0, omega arith))
 
 list-page-slice-aggregate-list-leaves : (t : ℕ) → list-page-lts.Need-slice-aggregate-list-leaves (list-page-calls t) (list-page-at t) list-page.Post list-page-Inv-loop list-page-μ-loop
 list-page-slice-aggregate-list-leaves t c = search needs
@@ -88,16 +88,16 @@ list-page-list-leaves-requires t c κs = let p = c .before .before .before .befo
     (p .0, (p .1 .0, (omega (arith, m .ensures .1, m .kept .1 .1 .1 .1 .0), c .before .before .before .before .before .before .before .before .before .arrive .ensures .1)))
 
 list-page-same-length : (t : ℕ) → list-page-lts.Need-same-length (list-page-calls t) (list-page-at t) list-page.Post list-page-Inv-loop list-page-μ-loop
-list-page-same-length t c = c .before .before .list-leaves .kept .1 .1 .1 .1 .0
+list-page-same-length t c = c .before .before .list-leaves .kept .1 .1 .1 .0
 
 list-page-returns-3 : (t : ℕ) → list-page-lts.Need-returns-3 (list-page-calls t) (list-page-at t) list-page.Post list-page-Inv-loop list-page-μ-loop
 list-page-returns-3 t c = let a = c .before .before .before .before .before .before .before .before .before .before .before .before .before .before .before .before .args in
     let p = c .before .before .before .before .before .before .before .before .before .before .before .before .before .before .before .before .pre .1 in
-    let v = windowOf (a .k) (a .window .now) in
+    let v = windowOf (a .f .domains) (a .window .now) in
     let u = c .before .before .before .before .before .before .before .before .before .before .before .before .arrive in
-    let e = enters (a .n) (a .j) (regionWords (a .pool .now) (a .k) (a .j)) (a .s) (u .result) (u .ensures .0) (sym (c .before .before .before .before .before .before .before .before .before .before .region-page .ensures) ∙ not-false _ (c .before .before .before .before .before .before .before .before .before .if2 .left)) in
+    let e = enters (a .f .pages) (a .j) (regionWords (a .pool .now) (a .f .domains) (a .j)) (a .s) (u .result) (u .ensures .0) (sym (c .before .before .before .before .before .before .before .before .before .before .region-page .ensures) ∙ not-false _ (c .before .before .before .before .before .before .before .before .before .if2 .left)) in
     let q : a .level - 1 - 1 ≡ 0 = omega (arith, p .1 .1 .0, c .before .before .before .before .before .if3 .taken) in
-    (c .before .before .list-leaves .ensures .0 ∙ (rw q at (page-good (a .pool .now) (a .n) (a .k) (p .0) v (a .j) (a .s) (p .1 .1 .1 .1) (a .answer .now) (a .level) (p .1 .1 .0) (u .result) e (c .before .before .before .before .before .before .before .before .before .before .before .if1 .left) _ (c .before .before .before .before .before .before .before .meeting .ensures .0))), c .before .before .list-leaves .ensures .1)
+    (c .before .before .list-leaves .ensures .0 ∙ (rw q at (page-good (a .pool .now) (a .f) (p .0) v (a .j) (a .s) (p .1 .1 .1 .1) (a .answer .now) (a .level) (p .1 .1 .0) (u .result) e (c .before .before .before .before .before .before .before .before .before .before .before .if1 .left) _ (c .before .before .before .before .before .before .before .meeting .ensures .0))), c .before .before .list-leaves .ensures .1)
 
 list-page-loop-holds : (t : ℕ) → list-page-lts.Need-loop-holds (list-page-calls t) (list-page-at t) list-page.Post list-page-Inv-loop list-page-μ-loop
 list-page-loop-holds t c = (refl, c .before .before .before .before .before .before .before .arrive .ensures .1, rw (sub-zero (c .before .before .meeting .result)))
@@ -126,9 +126,9 @@ list-page-loop-again t c = let a = c .before .before .before .before .before .be
     let l = c .before .before .before .before .before .before .before .before .loop in
     let m = c .before .before .before .before .before .before .before .before .before .before .before .meeting in
     let h = not-all (l .i) (m .result) (not (l .t .bad)) (c .before .before .before .before .before .before .if4 .taken) in (
-      c .before .before .list-page .kept .1 .1 .1 .1 .0 ∙ l .inv .0,
+      c .before .before .list-page .kept .1 .1 .1 .0 ∙ l .inv .0,
       c .before .before .list-page .ensures .1,
-      each-next (a .n) (m .result) (l .i) (tour L (a .pool .now) (windowOf (a .k) (a .window .now)) (a .level - 1 - 1)) (m .last .1 .1 .1 .1 .0) (l .t) (l .answer) _ (l .inv .2) h (omega (arith, h, m .ensures .1, m .kept .1 .1 .1 .1 .0)) (c .before .before .list-page .result) (c .before .before .list-page .last .1 .1 .1 .1 .0) (rw (c .before .before .before .read .ensures .0) at (c .before .before .list-page .ensures .0)),
+      each-next (a .f .pages) (m .result) (l .i) (tour L (a .pool .now) (windowOf (a .f .domains) (a .window .now)) (a .level - 1 - 1)) (m .last .1 .1 .1 .1 .0) (l .t) (l .answer) _ (l .inv .2) h (omega (arith, h, m .ensures .1, m .kept .1 .1 .1 .1 .0)) (c .before .before .list-page .result) (c .before .before .list-page .last .1 .1 .1 .0) (rw (c .before .before .before .read .ensures .0) at (c .before .before .list-page .ensures .0)),
     )
 
 list-page-same-length-2 : (t : ℕ) → list-page-lts.Need-same-length-2 (list-page-calls t) (list-page-at t) list-page.Post list-page-Inv-loop list-page-μ-loop
@@ -137,12 +137,12 @@ list-page-same-length-2 t c = c .before .before .loop .inv .0
 list-page-returns-4 : (t : ℕ) → list-page-lts.Need-returns-4 (list-page-calls t) (list-page-at t) list-page.Post list-page-Inv-loop list-page-μ-loop
 list-page-returns-4 t c = let a = c .before .before .before .before .before .before .before .before .before .before .before .before .before .before .args in
     let p = c .before .before .before .before .before .before .before .before .before .before .before .before .before .before .pre .1 in
-    let v = windowOf (a .k) (a .window .now) in
+    let v = windowOf (a .f .domains) (a .window .now) in
     let u = c .before .before .before .before .before .before .before .before .before .before .arrive in
-    let e = enters (a .n) (a .j) (regionWords (a .pool .now) (a .k) (a .j)) (a .s) (u .result) (u .ensures .0) (sym (c .before .before .before .before .before .before .before .before .region-page .ensures) ∙ not-false _ (c .before .before .before .before .before .before .before .if2 .left)) in
+    let e = enters (a .f .pages) (a .j) (regionWords (a .pool .now) (a .f .domains) (a .j)) (a .s) (u .result) (u .ensures .0) (sym (c .before .before .before .before .before .before .before .before .region-page .ensures) ∙ not-false _ (c .before .before .before .before .before .before .before .if2 .left)) in
     let l = c .before .before .loop in
     let m = c .before .before .before .before .before .meeting in
-    (each-end (a .n) (m .result) (l .i) (tour L (a .pool .now) v (a .level - 1 - 1)) (m .last .1 .1 .1 .1 .0) (l .t) (l .answer) _ (l .inv .2) (c .if4 .left) (l .inv .1) ∙ page-good (a .pool .now) (a .n) (a .k) (p .0) v (a .j) (a .s) (p .1 .1 .1 .1) (a .answer .now) (a .level) (p .1 .1 .0) (u .result) e (c .before .before .before .before .before .before .before .before .before .if1 .left) _ (m .ensures .0), l .inv .1)
+    (each-end (a .f .pages) (m .result) (l .i) (tour L (a .pool .now) v (a .level - 1 - 1)) (m .last .1 .1 .1 .1 .0) (l .t) (l .answer) _ (l .inv .2) (c .if4 .left) (l .inv .1) ∙ page-good (a .pool .now) (a .f) (p .0) v (a .j) (a .s) (p .1 .1 .1 .1) (a .answer .now) (a .level) (p .1 .1 .0) (u .result) e (c .before .before .before .before .before .before .before .before .before .if1 .left) _ (m .ensures .0), l .inv .1)
 
 pub +list-page-spec : {M : Type 1} → statement M
 +list-page-spec = close μ-list-page λ t. list-page-lts.spec (list-page-calls t)

@@ -1,6 +1,6 @@
 -- `walk::list_walk` meets its contract: the walk from the root, if there is one.
 use Rattle.walk.proofs.List.{walk-none, walk-some}
-use Rattle.walk.specs.List.{going, after}
+use Rattle.walk.specs.List.{going, movedBy}
 use Rattle.kdb.specs.Calls.{L, windowOf}
 use Rattle.kdb.specs.Pool.{levelsAt, rootAt}
 use Rattle.kdb.specs.Walk.{tour}
@@ -15,43 +15,40 @@ get-requires : tie.Need-get-requires
 get-requires c κs = search needs
 
 returns : tie.Need-returns
-returns c = let a = c .before .before .before .before .before .args in walk-none (a .pool .now) (a .n) (a .k) (c .before .before .before .before .before .pre .0) (windowOf (a .k) (a .window .now)) (a .answer .now) (sym (c .before .get .ensures .0) ∙ c .if1 .taken)
+returns c = let a = c .before .before .before .before .before .args in walk-none (a .pool .now) (a .f) (c .before .before .before .before .before .pre .0) (windowOf (a .f .domains) (a .window .now)) (a .answer .now) (sym (c .before .get .ensures .0) ∙ c .if1 .taken)
 
 get-requires-2 : tie.Need-get-requires-2
 get-requires-2 c κs = search needs
 
-domains-requires : tie.Need-domains-requires
-domains-requires c κs = (c .before .before .before .before .before .before .pre .0 .least, c .before .before .before .before .before .before .pre .0 .few)
-
 list-leaf-requires : tie.Need-list-leaf-requires
-list-leaf-requires c κs = let p = c .before .before .before .before .before .before .before .before .before .pre in
-    rw (c .before .before .domains .ensures) (p .0, (p .1, (c .before .before .before .get2 .ensures .1, record { few = omega (arith, p .0 .paged .least); small = omega arith })))
+list-leaf-requires c κs = let p = c .before .before .before .before .before .before .before .before .pre in
+    (p .0, (p .1, (c .before .before .get2 .ensures .1, record { few = omega (arith, p .0 .formed .least); small = omega arith })))
 
 same-length : tie.Need-same-length
-same-length c = c .before .before .list-leaf .kept .1 .1 .1 .1 .0
+same-length c = c .before .before .list-leaf .kept .1 .1 .1 .0
 
 returns-2 : tie.Need-returns-2
-returns-2 c = let a = c .before .before .before .before .before .before .before .before .before .before .before .before .args in
-    let v = windowOf (a .k) (a .window .now) in
+returns-2 c = let a = c .before .before .before .before .before .before .before .before .before .before .before .args in
+    let v = windowOf (a .f .domains) (a .window .now) in
     let w = a .pool .now in
-    let z = c .before .before .before .before .before .before .before .before .get .ensures .0 in
+    let z = c .before .before .before .before .before .before .before .get .ensures .0 in
     let q : levelsAt w - 1 ≡ 0 = omega (arith, z, c .before .before .before .before .if2 .taken) in
-    (rw (c .before .before .before .before .before .domains .ensures, c .before .before .before .before .before .before .get2 .ensures .0) at (c .before .before .list-leaf .ensures .0))
-    ∙ ap (λ (i : ℕ). after (a .n) (going 0 0 (a .answer .now)) (tour L w v i (rootAt w))) (sym q)
-    ∙ walk-some w (a .n) (a .k) (c .before .before .before .before .before .before .before .before .before .before .before .before .pre .0) v (a .answer .now) (λ y. c .before .before .before .before .before .before .before .if1 .left (z ∙ y))
+    (rw (c .before .before .before .before .before .get2 .ensures .0) at (c .before .before .list-leaf .ensures .0))
+    ∙ ap (λ (i : ℕ). movedBy (a .f .pages) (going 0 0 (a .answer .now)) (tour L w v i (rootAt w))) (sym q)
+    ∙ walk-some w (a .f) (c .before .before .before .before .before .before .before .before .before .before .before .pre .0) v (a .answer .now) (λ y. c .before .before .before .before .before .before .if1 .left (z ∙ y))
 
 list-page-requires : tie.Need-list-page-requires
-list-page-requires c κs = let p = c .before .before .before .before .before .before .before .before .before .pre in
-    rw (c .before .before .domains .ensures) (p .0, (p .1, (c .before .if2 .left, (c .before .before .before .get2 .ensures .1, record { few = omega (arith, p .0 .paged .least); small = omega arith }))))
+list-page-requires c κs = let p = c .before .before .before .before .before .before .before .before .pre in
+    (p .0, (p .1, (c .before .if2 .left, (c .before .before .get2 .ensures .1, record { few = omega (arith, p .0 .formed .least); small = omega arith }))))
 
 same-length-2 : tie.Need-same-length-2
-same-length-2 c = c .before .before .list-page .kept .1 .1 .1 .1 .0
+same-length-2 c = c .before .before .list-page .kept .1 .1 .1 .0
 
 returns-3 : tie.Need-returns-3
-returns-3 c = let a = c .before .before .before .before .before .before .before .before .before .before .before .before .args in
-    let z = c .before .before .before .before .before .before .before .before .get .ensures .0 in
-    (rw (c .before .before .before .before .before .domains .ensures, c .before .before .before .before .before .before .get2 .ensures .0, z) at (c .before .before .list-page .ensures .0))
-    ∙ walk-some (a .pool .now) (a .n) (a .k) (c .before .before .before .before .before .before .before .before .before .before .before .before .pre .0) (windowOf (a .k) (a .window .now)) (a .answer .now) (λ y. c .before .before .before .before .before .before .before .if1 .left (z ∙ y))
+returns-3 c = let a = c .before .before .before .before .before .before .before .before .before .before .before .args in
+    let z = c .before .before .before .before .before .before .before .get .ensures .0 in
+    (rw (c .before .before .before .before .before .get2 .ensures .0, z) at (c .before .before .list-page .ensures .0))
+    ∙ walk-some (a .pool .now) (a .f) (c .before .before .before .before .before .before .before .before .before .before .before .pre .0) (windowOf (a .f .domains) (a .window .now)) (a .answer .now) (λ y. c .before .before .before .before .before .before .if1 .left (z ∙ y))
 
 pub list-walk-spec : {M : Type 1} → statement M
 list-walk-spec =
@@ -60,7 +57,6 @@ list-walk-spec =
     get-requires
     returns
     get-requires-2
-    domains-requires
     list-leaf-requires
     same-length
     returns-2

@@ -1,26 +1,21 @@
 -- `walk::record_for` meets its contract: what is left of the records gives the end of the whole.
 use Rattle.walk.proofs.Seek.{record-end, record-here, record-next}
-use Rattle.walk.proofs.Pages.{slot-in, slot-first}
 use Rattle.walk.specs.Seek.{ended}
-use Rattle.words.specs.Words.{wordAt, pointAt}
-use Rattle.kdb.specs.Calls.{L}
+use Rattle.words.specs.Words.{wordAt, recordsFrom}
 use Rattle.kdb.specs.Walk.{spots, spotOf}
-use Rattle.kdb.specs.Pages.{readRecs}
-use lib.ListN.{drop}
-use native.Mathlib.Nat.{sub-zero}
 use mathlib.Core.Path.{_≡_, sym, _∙_}
-use Prim.Native.Nat.{_+_, _-_, _*_, _≤_}
+use Prim.Native.Nat.{_-_, _≤_}
 use borrow.Author.Needs.{needs}
 use native.Mathlib.Omega.{arith}
 use Rattle.walk.proofs.record_for.Statement.{statement}
 use Rattle.walk.proofs.record_for.Tie as tie
 
 abbrev Inv-loop : tie.InvT-loop
-Inv-loop pool k point j reads count e₀ e = (e ≤ count) × (count ≡ wordAt pool j 1)
-    × (ended reads (spotOf j point (spots j e (readRecs k (count - e) (drop (pointAt k j e) pool)))) ≡ ended reads (spotOf j point (spots j 0 (readRecs k (wordAt pool j 1) (drop (L * j + 4) pool)))))
+Inv-loop pool f point j reads count e₀ e = (e ≤ count) × (count ≡ wordAt pool j 1)
+    × (ended reads (spotOf j point (spots j e (recordsFrom (f .domains) pool j count e))) ≡ ended reads (spotOf j point (spots j 0 (recordsFrom (f .domains) pool j (wordAt pool j 1) 0))))
 
 abbrev μ-loop : tie.MeasureT-loop
-μ-loop pool k point j reads count e₀ e = count - e
+μ-loop pool f point j reads count e₀ e = count - e
 
 mul-read : tie.Need-mul-read Inv-loop μ-loop
 mul-read c = search needs
@@ -32,15 +27,13 @@ read-requires : tie.Need-read-requires Inv-loop μ-loop
 read-requires c κs = omega (arith, c .before .before .pre .0 .ends)
 
 loop-holds : tie.Need-loop-holds Inv-loop μ-loop
-loop-holds c = let a = c .before .before .before .args in
-    (omega arith, c .read .ensures .0, rw (sub-zero (c .read .result), c .read .ensures .0, slot-first (a .k) (a .j)))
+loop-holds c = (omega arith, c .read .ensures .0, rw (c .read .ensures .0))
 
 same-keys-requires : tie.Need-same-keys-requires Inv-loop μ-loop
-same-keys-requires c κs = let a = c .before .before .before .before .before .args in (slot-in (a .pool .now) (a .k) (a .j) (c .before .loop .e) (c .before .before .before .before .before .pre .0) (rw (c .before .loop .inv .1) at (c .loop-test .taken)), c .before .before .before .before .before .pre .1)
+same-keys-requires c κs = let p = c .before .before .before .before .before .pre in (p .0 .slots (c .before .loop .e) (rw (c .before .loop .inv .1) at (c .loop-test .taken)), p .1)
 
 point-location-requires : tie.Need-point-location-requires Inv-loop μ-loop
-point-location-requires c κs = let a = c .before .before .before .before .before .before .before .args in
-    slot-in (a .pool .now) (a .k) (a .j) (c .before .before .before .loop .e) (c .before .before .before .before .before .before .before .pre .0) (rw (c .before .before .before .loop .inv .1) at (c .before .before .loop-test .taken))
+point-location-requires c κs = c .before .before .before .before .before .before .before .pre .0 .slots (c .before .before .before .loop .e) (rw (c .before .before .before .loop .inv .1) at (c .before .before .loop-test .taken))
 
 returns : tie.Need-returns Inv-loop μ-loop
 returns c = rw (c .point-location .ensures .0) (record-here _ _ _ _ _ _ _ _ (c .before .before .before .before .loop .inv .2) (c .before .before .before .loop-test .taken) (sym (c .before .before .same-keys .ensures) ∙ c .before .if1 .taken))

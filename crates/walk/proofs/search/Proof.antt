@@ -11,22 +11,18 @@ get-requires c κs = search needs
 returns : tie.Need-returns
 returns c = let a = c .before .before .before .before .args in search-none (a .pool .now) (a .point .now) (sym (c .before .get .ensures .0) ∙ c .if1 .taken)
 
-domains-requires : tie.Need-domains-requires
-domains-requires c κs = (c .before .before .before .before .pre .0 .least, c .before .before .before .before .pre .0 .few)
-
 get-requires-2 : tie.Need-get-requires-2
 get-requires-2 c κs = search needs
 
 descend-requires : tie.Need-descend-requires
-descend-requires c κs = let p = c .before .before .before .before .before .before .pre in
-    rw (c .before .domains .ensures) (p .0, (p .1, (c .get2 .ensures .1, c .before .before .before .get .ensures .1)))
+descend-requires c κs = let p = c .before .before .before .before .before .pre in (p .0, (p .1, (c .get2 .ensures .1, c .before .before .get .ensures .1)))
 
 returns-2 : tie.Need-returns-2
-returns-2 c = let a = c .before .before .before .before .before .before .before .args in
-    (rw (c .before .get2 .ensures .0, c .before .before .before .before .get .ensures .0) at (c .descend .ensures))
-    ∙ search-some (a .pool .now) (a .point .now) (λ z. c .before .before .before .if1 .left (c .before .before .before .before .get .ensures .0 ∙ z))
+returns-2 c = let a = c .before .before .before .before .before .before .args in
+    (rw (c .before .get2 .ensures .0, c .before .before .before .get .ensures .0) at (c .descend .ensures))
+    ∙ search-some (a .pool .now) (a .point .now) (λ z. c .before .before .if1 .left (c .before .before .before .get .ensures .0 ∙ z))
 
 pub search-spec : {M : Type 1} → statement M
 search-spec =
     tie.close
-    (tie.spec get-requires returns domains-requires get-requires-2 descend-requires returns-2)
+    (tie.spec get-requires returns get-requires-2 descend-requires returns-2)

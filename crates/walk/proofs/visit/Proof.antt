@@ -36,11 +36,11 @@ same-length c = c .before .before .before .put .kept .0
 returns : tie.Need-returns
 returns c = let a = c .before .before .before .before .before .before .before .before .before .before .before .before .before .args in
     let h = c .before .before .before .before .before .before .before .before .before .in-window .ensures in
-    let sees = inWindow (windowOf (a .k) (a .window .now)) (keysOf (a .k) (a .pool .now) (a .j) (a .slot)) in (
+    let sees = inWindow (windowOf (a .f .domains) (a .window .now)) (keysOf (a .f .domains) (a .pool .now) (a .j) (a .slot)) in (
       rw (c .one .ensures .0, h) (counted sees (a .total)),
       (
         c .before .before .before .put .ensures
-            ∙ (rw (c .before .before .before .before .either .ensures .0, c .before .before .before .before .before .before .get .ensures .0, c .before .before .before .before .before .before .before .before .point-location .ensures .0, h) (written sees (a .answer .now) (a .total) (pointLocation (a .pool .now) (a .k) (a .j) (a .slot)))),
+            ∙ (rw (c .before .before .before .before .either .ensures .0, c .before .before .before .before .before .before .get .ensures .0, c .before .before .before .before .before .before .before .before .point-location .ensures .0, h) (written sees (a .answer .now) (a .total) (pointLocation (a .pool .now) (a .f .domains) (a .j) (a .slot)))),
         omega (arith, c .one .ensures .1),
       ),
     )
