@@ -34,13 +34,19 @@ module _ (step : Ent → Seen → List ℕ → Way) (w : List ℕ) (k c e a : �
   unfolding entryByEntry
   entries-next q h = rw (ent-turn k c e w a h) at q
 
--- a page that may be looked at has the number of a page
-pub fresh-number : (f : Form) (j : ℕ) (m : List ℕ) (s : Seen) → freshOf (f .pages) j m s ≡ true → PageOf f j
-fresh-number f j m s e =
+-- a page that may be looked at has the number of a page, which lies in the pool
+pub record Within (w : List ℕ) (f : Form) (j : ℕ) : Type 0 where
+  pub number : PageOf f j
+  pub ends : L * j + L ≤ length w
+  pub near : length w ≤ L * 512
+
+pub fresh-within : (w : List ℕ) (f : Form) → Formed w f → (j : ℕ) (m : List ℕ) (s : Seen) → freshOf (f .pages) j m s ≡ true → Within w f j
+fresh-within w f g j m s e =
     let a = and-t (not (s .bad) && not (eqb j 0) && ltb j (f .pages)) _ e in
     let b = and-t (not (s .bad) && not (eqb j 0)) _ (a .0) in
     let z : j ≡ 0 → ⊥ = eqb-false j 0 (not-true (eqb j 0) (and-t (not (s .bad)) _ (b .0) .1)) in
-    record { some = omega arith; page = ltb-true j (f .pages) (b .1) }
+    let h = ltb-true j (f .pages) (b .1) in
+    record { number = record { some = omega arith; page = h }; ends = omega arith; near = omega arith }
 
 module _ (l : ℕ) (w : List ℕ) (f : Form) (g : Formed w f) (j : ℕ) (r : Box) (s : Seen) (m : List ℕ) where
   fresh-is : (t : Bool) → freshOf (f .pages) j m s ≡ t → fresh L w j m s ≡ t

@@ -9,9 +9,10 @@ use Rattle.kdb.specs.Pool.{view}
 use Rattle.kdb.specs.Pages.{entsIn, readEnts}
 use Rattle.audit.specs.Walk.{entryByEntry, pageOf}
 use Rattle.pages.proofs.OnePage.{entries-of}
+use Rattle.words.specs.Words.{RegionIn}
 use Rattle.cover.specs.Boxes.{Row}
-use Rattle.cover.proofs.Loops.{row-next, row-first}
-use Rattle.audit.proofs.Turns.{fresh-number, entries-end, entries-next, page-bad, page-leaf, page-spoilt, page-entries}
+use Rattle.cover.proofs.Loops.{row-next, row-first, region-first}
+use Rattle.audit.proofs.Turns.{Within, fresh-within, entries-end, entries-next, page-bad, page-leaf, page-spoilt, page-entries}
 use borrow.Author.Needs.{needs}
 use native.Mathlib.Omega.{arith}
 use Prim.Native.Nat.{ℕ, _<_}
@@ -46,6 +47,18 @@ page-Inv-loop p f level j q b met₀ k left count u₀ at₀ e₀ met u at e = (
 abbrev page-μ-loop : page-lts.MeasureT-loop
 page-μ-loop p f level j q b met₀ k left count u₀ at₀ e₀ met u at e = count - e
 
+-- where page j may be looked at, and where its loop looks at an entry
+page-fresh : (t : ℕ) (c : page-lts.Else1 (page-calls t) (page-at t) page.Post page-Inv-loop page-μ-loop) → Within (c .before .before .before .before .before .before .args .p .now) (c .before .before .before .before .before .before .args .f) (c .before .before .before .before .before .before .args .j)
+page-fresh t c = let x = c .before .before .before .before .before .before .args in
+    fresh-within (x .p .now) (x .f) (c .before .before .before .before .before .before .pre .1 .0 .formed) (x .j) (x .met .now) (x .s) (sym (c .before .fresh .ensures) ∙ not-false _ (c .if1 .left))
+
+page-entry : (t : ℕ) (c : page-lts.In-loop (page-calls t) (page-at t) page.Post page-Inv-loop page-μ-loop) → RegionIn (c .before .before .before .before .before .before .before .before .before .before .before .before .before .before .before .before .args .p .now) (c .before .before .before .before .before .before .before .before .before .before .before .before .before .before .before .before .args .f .domains) (c .before .loop .at) × (c .before .loop .at + (2 * c .before .before .before .before .before .before .before .before .before .before .before .before .before .before .before .before .args .f .domains + 1) ≤ length (c .before .before .before .before .before .before .before .before .before .before .before .before .before .before .before .before .args .p .now))
+page-entry t c = let x = c .before .before .before .before .before .before .before .before .before .before .before .before .before .before .before .before .args in
+    let l = c .before .loop in (
+      region-first (x .p .now) (x .f .domains) (l .at) (c .before .before .read .result) (l .e) (l .inv .1) (c .loop-test .taken),
+      row-first (x .p .now) (2 * x .f .domains + 1) (l .at) (c .before .before .read .result) (l .e) (l .inv .1) (c .loop-test .taken),
+    )
+
 page-fresh-requires : (t : ℕ) → page-lts.Need-fresh-requires (page-calls t) (page-at t) page.Post page-Inv-loop page-μ-loop
 page-fresh-requires t c κs = search needs
 
@@ -59,9 +72,8 @@ page-put-requires : (t : ℕ) → page-lts.Need-put-requires (page-calls t) (pag
 page-put-requires t c κs = search needs
 
 page-leaf-requires : (t : ℕ) → page-lts.Need-leaf-requires (page-calls t) (page-at t) page.Post page-Inv-loop page-μ-loop
-page-leaf-requires t c κs = let x = c .before .before .before .before .before .before .before .before .before .before .before .args in
-    let h = c .before .before .before .before .before .before .before .before .before .before .before .pre .1 in
-    (h .0, (fresh-number (x .f) (x .j) (x .met .now) (x .s) (sym (c .before .before .before .before .before .before .fresh .ensures) ∙ not-false _ (c .before .before .before .before .before .if1 .left)), h .1))
+page-leaf-requires t c κs = let h = c .before .before .before .before .before .before .before .before .before .before .before .pre .1 in
+    (h .0, (page-fresh t (c .before .before .before .before .before) .number, h .1))
 
 page-same-length-2 : (t : ℕ) → page-lts.Need-same-length-2 (page-calls t) (page-at t) page.Post page-Inv-loop page-μ-loop
 page-same-length-2 t c = search needs
@@ -70,9 +82,8 @@ page-returns-2 : (t : ℕ) → page-lts.Need-returns-2 (page-calls t) (page-at t
 page-returns-2 t c = rw (c .leaf .ensures, c .before .before .before .before .put .ensures) (page-leaf _ _ _ (c .before .before .before .before .before .before .before .before .before .before .before .before .pre .1 .0 .formed) _ _ _ _ (sym (c .before .before .before .before .before .before .before .fresh .ensures) ∙ not-false _ (c .before .before .before .before .before .before .if1 .left)) (c .before .if2 .taken))
 
 page-region-page-requires : (t : ℕ) → page-lts.Need-region-page-requires (page-calls t) (page-at t) page.Post page-Inv-loop page-μ-loop
-page-region-page-requires t c κs = let x = c .before .before .before .before .before .before .before .before .before .before .before .args in
-    let h = c .before .before .before .before .before .before .before .before .before .before .before .pre .1 in
-    (h .0, (fresh-number (x .f) (x .j) (x .met .now) (x .s) (sym (c .before .before .before .before .before .before .fresh .ensures) ∙ not-false _ (c .before .before .before .before .before .if1 .left)), h .1))
+page-region-page-requires t c κs = let h = c .before .before .before .before .before .before .before .before .before .before .before .pre .1 in
+    (h .0, (page-fresh t (c .before .before .before .before .before) .number, h .1))
 
 page-same-length-3 : (t : ℕ) → page-lts.Need-same-length-3 (page-calls t) (page-at t) page.Post page-Inv-loop page-μ-loop
 page-same-length-3 t c = search needs
@@ -81,94 +92,50 @@ page-returns-3 : (t : ℕ) → page-lts.Need-returns-3 (page-calls t) (page-at t
 page-returns-3 t c = rw (c .before .before .before .before .before .put .ensures) (page-spoilt _ _ _ (c .before .before .before .before .before .before .before .before .before .before .before .before .before .pre .1 .0 .formed) _ _ _ _ (sym (c .before .before .before .before .before .before .before .before .fresh .ensures) ∙ not-false _ (c .before .before .before .before .before .before .before .if1 .left)) (c .before .before .if2 .left) (sym (c .before .region-page .ensures) ∙ not-true _ (c .if3 .taken)))
 
 page-mul-read : (t : ℕ) → page-lts.Need-mul-read (page-calls t) (page-at t) page.Post page-Inv-loop page-μ-loop
-page-mul-read t c = let x = c .before .before .before .before .before .before .before .before .before .before .before .before .before .args in
-    let g = c .before .before .before .before .before .before .before .before .before .before .before .before .before .pre .1 .0 .formed in
-    let i = fresh-number (x .f) (x .j) (x .met .now) (x .s) (sym (c .before .before .before .before .before .before .before .before .fresh .ensures) ∙ not-false _ (c .before .before .before .before .before .before .before .if1 .left)) in
-    omega arith
+page-mul-read t c = let i = page-fresh t (c .before .before .before .before .before .before .before) in omega arith
 
 page-add-read : (t : ℕ) → page-lts.Need-add-read (page-calls t) (page-at t) page.Post page-Inv-loop page-μ-loop
-page-add-read t c = let x = c .before .before .before .before .before .before .before .before .before .before .before .before .before .args in
-    let g = c .before .before .before .before .before .before .before .before .before .before .before .before .before .pre .1 .0 .formed in
-    let i = fresh-number (x .f) (x .j) (x .met .now) (x .s) (sym (c .before .before .before .before .before .before .before .before .fresh .ensures) ∙ not-false _ (c .before .before .before .before .before .before .before .if1 .left)) in
-    omega arith
+page-add-read t c = let i = page-fresh t (c .before .before .before .before .before .before .before) in omega arith
 
 page-read-requires : (t : ℕ) → page-lts.Need-read-requires (page-calls t) (page-at t) page.Post page-Inv-loop page-μ-loop
-page-read-requires t c κs = let x = c .before .before .before .before .before .before .before .before .before .before .before .before .before .args in
-    let g = c .before .before .before .before .before .before .before .before .before .before .before .before .before .pre .1 .0 .formed in
-    let i = fresh-number (x .f) (x .j) (x .met .now) (x .s) (sym (c .before .before .before .before .before .before .before .before .fresh .ensures) ∙ not-false _ (c .before .before .before .before .before .before .before .if1 .left)) in
-    omega arith
+page-read-requires t c κs = let i = page-fresh t (c .before .before .before .before .before .before .before) in omega arith
 
 page-mul-at : (t : ℕ) → page-lts.Need-mul-at (page-calls t) (page-at t) page.Post page-Inv-loop page-μ-loop
-page-mul-at t c = let x = c .before .before .before .before .before .before .before .before .before .before .before .before .before .before .args in
-    let g = c .before .before .before .before .before .before .before .before .before .before .before .before .before .before .pre .1 .0 .formed in
-    let i = fresh-number (x .f) (x .j) (x .met .now) (x .s) (sym (c .before .before .before .before .before .before .before .before .before .fresh .ensures) ∙ not-false _ (c .before .before .before .before .before .before .before .before .if1 .left)) in
-    omega arith
+page-mul-at t c = let i = page-fresh t (c .before .before .before .before .before .before .before .before) in omega arith
 
 page-add-at : (t : ℕ) → page-lts.Need-add-at (page-calls t) (page-at t) page.Post page-Inv-loop page-μ-loop
-page-add-at t c = let x = c .before .before .before .before .before .before .before .before .before .before .before .before .before .before .args in
-    let g = c .before .before .before .before .before .before .before .before .before .before .before .before .before .before .pre .1 .0 .formed in
-    let i = fresh-number (x .f) (x .j) (x .met .now) (x .s) (sym (c .before .before .before .before .before .before .before .before .before .fresh .ensures) ∙ not-false _ (c .before .before .before .before .before .before .before .before .if1 .left)) in
-    omega arith
+page-add-at t c = let i = page-fresh t (c .before .before .before .before .before .before .before .before) in omega arith
 
 page-loop-holds : (t : ℕ) → page-lts.Need-loop-holds (page-calls t) (page-at t) page.Post page-Inv-loop page-μ-loop
-page-loop-holds t c = let x = c .before .before .before .before .before .before .before .before .before .before .before .before .before .before .args in
-    let h = c .before .before .before .before .before .before .before .before .before .before .before .before .before .before .pre .1 in
-    let i = fresh-number (x .f) (x .j) (x .met .now) (x .s) (sym (c .before .before .before .before .before .before .before .before .before .fresh .ensures) ∙ not-false _ (c .before .before .before .before .before .before .before .before .if1 .left)) in
-    let m = entries-of _ _ _ (h .0) i _ (c .read .result) (c .read .ensures .0) (sym (c .before .before .region-page .ensures) ∙ not-false _ (c .before .if3 .left)) in
+page-loop-holds t c = let h = c .before .before .before .before .before .before .before .before .before .before .before .before .before .before .pre .1 in
+    let m = entries-of _ _ _ (h .0) (page-fresh t (c .before .before .before .before .before .before .before .before) .number) _ (c .read .result) (c .read .ensures .0) (sym (c .before .before .region-page .ensures) ∙ not-false _ (c .before .if3 .left)) in
     (omega arith, m .0, refl, simp sub-zero (rw (m .1)))
 
 page-sub-page : (t : ℕ) → page-lts.Need-sub-page (page-calls t) (page-at t) page.Post page-Inv-loop page-μ-loop
 page-sub-page t c = search needs
 
 page-mul-read-2 : (t : ℕ) → page-lts.Need-mul-read-2 (page-calls t) (page-at t) page.Post page-Inv-loop page-μ-loop
-page-mul-read-2 t c = let x = c .before .before .before .before .before .before .before .before .before .before .before .before .before .before .before .before .args in
-    let h = c .before .before .before .before .before .before .before .before .before .before .before .before .before .before .before .before .pre .1 in
-    let g = h .0 .formed in
-    let i = fresh-number (x .f) (x .j) (x .met .now) (x .s) (sym (c .before .before .before .before .before .before .before .before .before .before .before .fresh .ensures) ∙ not-false _ (c .before .before .before .before .before .before .before .before .before .before .if1 .left)) in
-    let r = row-first (x .p .now) (2 * x .f .domains + 1) (c .before .loop .at) (c .before .before .read .result) (c .before .loop .e) (c .before .loop .inv .1) (omega arith) in
-    omega arith
+page-mul-read-2 t c = let r = page-entry t c in omega arith
 
 page-add-read-2 : (t : ℕ) → page-lts.Need-add-read-2 (page-calls t) (page-at t) page.Post page-Inv-loop page-μ-loop
-page-add-read-2 t c = let x = c .before .before .before .before .before .before .before .before .before .before .before .before .before .before .before .before .args in
-    let h = c .before .before .before .before .before .before .before .before .before .before .before .before .before .before .before .before .pre .1 in
-    let g = h .0 .formed in
-    let i = fresh-number (x .f) (x .j) (x .met .now) (x .s) (sym (c .before .before .before .before .before .before .before .before .before .before .before .fresh .ensures) ∙ not-false _ (c .before .before .before .before .before .before .before .before .before .before .if1 .left)) in
-    let r = row-first (x .p .now) (2 * x .f .domains + 1) (c .before .loop .at) (c .before .before .read .result) (c .before .loop .e) (c .before .loop .inv .1) (omega arith) in
-    omega arith
+page-add-read-2 t c = let r = page-entry t c in omega arith
 
 page-read-requires-2 : (t : ℕ) → page-lts.Need-read-requires-2 (page-calls t) (page-at t) page.Post page-Inv-loop page-μ-loop
-page-read-requires-2 t c κs = let x = c .before .before .before .before .before .before .before .before .before .before .before .before .before .before .before .before .args in
-    let h = c .before .before .before .before .before .before .before .before .before .before .before .before .before .before .before .before .pre .1 in
-    let g = h .0 .formed in
-    let i = fresh-number (x .f) (x .j) (x .met .now) (x .s) (sym (c .before .before .before .before .before .before .before .before .before .before .before .fresh .ensures) ∙ not-false _ (c .before .before .before .before .before .before .before .before .before .before .if1 .left)) in
-    let r = row-first (x .p .now) (2 * x .f .domains + 1) (c .before .loop .at) (c .before .before .read .result) (c .before .loop .e) (c .before .loop .inv .1) (omega arith) in
-    omega arith
+page-read-requires-2 t c κs = let r = page-entry t c in omega arith
 
 page-page-requires : (t : ℕ) → page-lts.Need-page-requires (page-calls t) (page-at t) page.Post page-Inv-loop page-μ-loop
-page-page-requires t c κs = let x = c .before .before .before .before .before .before .before .before .before .before .before .before .before .before .before .before .before .before .args in
-    let h = c .before .before .before .before .before .before .before .before .before .before .before .before .before .before .before .before .before .before .pre .1 in
-    let g = h .0 .formed in
-    let i = fresh-number (x .f) (x .j) (x .met .now) (x .s) (sym (c .before .before .before .before .before .before .before .before .before .before .before .before .before .fresh .ensures) ∙ not-false _ (c .before .before .before .before .before .before .before .before .before .before .before .before .if1 .left)) in
-    let r = row-first (x .p .now) (2 * x .f .domains + 1) (c .before .before .before .loop .at) (c .before .before .before .before .read .result) (c .before .before .before .loop .e) (c .before .before .before .loop .inv .1) (omega arith) in
-    let d = c .before .before .before .before .before .before .before .if2 .left in
-    let z = c .before .before .before .before .before .before .before .before .before .before .before .before .before .before .before .before .before .before .pre .0 in
-    (omega arith, (h .0, record { few = g .few; near = omega arith; ends = omega arith }))
+page-page-requires t c κs = let d = c .before .before .before .before .before .before .before .if2 .left in
+    let z = c .before .before .before .before .before .before .before .before .before .before .before .before .before .before .before .before .before .before .pre in
+    (omega arith, (z .1 .0, page-entry t (c .before .before) .0))
 
 page-mul-at-2 : (t : ℕ) → page-lts.Need-mul-at-2 (page-calls t) (page-at t) page.Post page-Inv-loop page-μ-loop
-page-mul-at-2 t c = let h = c .before .before .before .before .before .before .before .before .before .before .before .before .before .before .before .before .before .before .before .before .before .pre .1 in
-    omega arith
+page-mul-at-2 t c = let r = page-entry t (c .before .before .before .before .before) in omega arith
 
 page-add-at-2 : (t : ℕ) → page-lts.Need-add-at-2 (page-calls t) (page-at t) page.Post page-Inv-loop page-μ-loop
-page-add-at-2 t c = let h = c .before .before .before .before .before .before .before .before .before .before .before .before .before .before .before .before .before .before .before .before .before .pre .1 in
-    omega arith
+page-add-at-2 t c = let r = page-entry t (c .before .before .before .before .before) in omega arith
 
 page-add-at-3 : (t : ℕ) → page-lts.Need-add-at-3 (page-calls t) (page-at t) page.Post page-Inv-loop page-μ-loop
-page-add-at-3 t c = let x = c .before .before .before .before .before .before .before .before .before .before .before .before .before .before .before .before .before .before .before .before .before .args in
-    let h = c .before .before .before .before .before .before .before .before .before .before .before .before .before .before .before .before .before .before .before .before .before .pre .1 in
-    let g = h .0 .formed in
-    let i = fresh-number (x .f) (x .j) (x .met .now) (x .s) (sym (c .before .before .before .before .before .before .before .before .before .before .before .before .before .before .before .before .fresh .ensures) ∙ not-false _ (c .before .before .before .before .before .before .before .before .before .before .before .before .before .before .before .if1 .left)) in
-    let r = row-first (x .p .now) (2 * x .f .domains + 1) (c .before .before .before .before .before .before .loop .at) (c .before .before .before .before .before .before .before .read .result) (c .before .before .before .before .before .before .loop .e) (c .before .before .before .before .before .before .loop .inv .1) (omega (arith, c .before .before .before .before .before .loop-test .taken)) in
-    omega arith
+page-add-at-3 t c = let r = page-entry t (c .before .before .before .before .before) in omega arith
 
 page-add-e : (t : ℕ) → page-lts.Need-add-e (page-calls t) (page-at t) page.Post page-Inv-loop page-μ-loop
 page-add-e t c = search needs
