@@ -22,7 +22,10 @@ use Rattle.kdb.specs.declared.Form.{Form}
 use Rattle.kdb.proofs.Length.{big}
 use Rattle.words.specs.Words.{Fit}
 use Rattle.words.proofs.Laws.{pages}
-use Rattle.kdb.proofs.Lists.{and-l, and-r, and-i, bool, is-true, is-false, of-true, of-bit, no-bit, bool-eq, many-append, each-map, each-every, every-each, zeros-pad, pad-zeros, every-up, up-every, sum-once}
+use Rattle.kdb.proofs.Tests.{and-l, and-r, and-i, bool, is-true, is-false, of-true, of-bit, no-bit, bool-eq}
+use Rattle.kdb.proofs.Lists.{each-map, each-every, every-each}
+use Rattle.kdb.proofs.Counts.{many-append, every-up, up-every, sum-once}
+use Rattle.kdb.proofs.Stores.{zeros-pad, pad-zeros}
 use Rattle.kdb.proofs.Pages.{FitsPage, read-page, page-full}
 use Rattle.kdb.proofs.Views.{Under, whole-under, tiles-under, whole-finite, among}
 use Rattle.kdb.proofs.Stands.{Stands}

@@ -14,7 +14,7 @@ use Rattle.kdb.specs.Pages.{Ent, recsIn, entsIn, readEnts, page}
 use Rattle.kdb.specs.Pool.{domains, rootAt, levelsAt, countAt, view}
 use Rattle.kdb.specs.Calls.{L}
 use Rattle.kdb.specs.declared.Form.{Form}
-use Rattle.kdb.proofs.Lists.{and-t, and-true, and-assoc}
+use Rattle.kdb.proofs.Tests.{and-t, and-true, and-assoc}
 use Rattle.kdb.proofs.Words.{entAt, ent-turn}
 use Rattle.words.specs.Loops.{allBy}
 use Rattle.words.specs.Words.{regionAt, Formed}

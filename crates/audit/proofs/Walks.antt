@@ -13,7 +13,8 @@ use Rattle.kdb.specs.Lists.{Each, gather, sum}
 use Rattle.kdb.specs.Box.{Box}
 use Rattle.kdb.specs.Pages.{Ent, Page, blank, points, regions, recsIn, entsIn, isRegions}
 use Rattle.kdb.specs.Pool.{pagesIn, view, reachedFrom}
-use Rattle.kdb.proofs.Lists.{and-l, and-r, is-true, is-false, of-true, sum-append}
+use Rattle.kdb.proofs.Tests.{and-l, and-r, is-true, is-false, of-true}
+use Rattle.kdb.proofs.Counts.{sum-append}
 use Rattle.audit.specs.declared.Seen.{Seen}
 use Rattle.pages.specs.Kinds.{soundPoints, soundRegions}
 use Rattle.pages.proofs.Here.{regions-say}

@@ -8,7 +8,7 @@ use native.Mathlib.Numerals.{add-one}
 use lib.Dec.{T, leb, ltb, leb→le, nleb→lt, ltb→lt, nltb→le}
 use lib.ListN.{drop, getD}
 use Rattle.kdb.specs.Box.{Box, solid}
-use Rattle.kdb.proofs.Lists.{bool, and-l, and-r}
+use Rattle.kdb.proofs.Tests.{bool, and-l, and-r}
 use Rattle.words.specs.Words.{regionAt, RegionIn}
 use Rattle.cover.specs.Volume.{volumeOf, value, bound, Sides}
 use Rattle.cover.specs.declared.Amount.{Amount}

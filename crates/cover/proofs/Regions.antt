@@ -12,7 +12,7 @@ use Rattle.kdb.specs.Lists.{every}
 use Rattle.kdb.specs.Box.{Box, solid}
 use Rattle.kdb.specs.Tiling.{tiles}
 use Rattle.kdb.specs.Pages.{readEnts}
-use Rattle.kdb.proofs.Lists.{and-l, and-r, and-i, bool-eq, of-true}
+use Rattle.kdb.proofs.Tests.{and-l, and-r, and-i, bool-eq, of-true}
 use Rattle.kdb.proofs.Pages.{length-ents}
 use Rattle.words.specs.Words.{regionAt}
 use Rattle.cover.specs.Boxes.{regionsAt, fitting, Row}

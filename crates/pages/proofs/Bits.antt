@@ -15,7 +15,8 @@ use Rattle.kdb.specs.Box.{Key}
 use Rattle.kdb.specs.Tree.{Rec}
 use Rattle.kdb.specs.Pages.{readRecs}
 use Rattle.kdb.specs.Shape.{differ}
-use Rattle.kdb.proofs.Lists.{and-l, and-r, and-i, bool, is-true, is-false, of-true, same-eq, no-bit, each-map}
+use Rattle.kdb.proofs.Tests.{and-l, and-r, and-i, bool, is-true, is-false, of-true, no-bit}
+use Rattle.kdb.proofs.Lists.{same-eq, each-map}
 use Rattle.kdb.proofs.Words.{recAt, rec-turn}
 use Rattle.cover.specs.Boxes.{Row}
 use Rattle.pages.specs.Tests.{recKey, unlike}

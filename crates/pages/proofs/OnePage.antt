@@ -18,7 +18,8 @@ use Rattle.kdb.specs.Pool.{domains, view, isPage}
 use Rattle.kdb.specs.Walk.{goodPoints, goodRegions}
 use Rattle.kdb.specs.Calls.{L}
 use Rattle.kdb.specs.declared.Form.{Form}
-use Rattle.kdb.proofs.Lists.{and-l, and-r, and-i, and-t, bool-eq, is-true, is-false, of-true, same-eq, same-refl}
+use Rattle.kdb.proofs.Tests.{and-l, and-r, and-i, and-t, bool-eq, is-true, is-false, of-true}
+use Rattle.kdb.proofs.Lists.{same-eq, same-refl}
 use Rattle.kdb.proofs.Pages.{page-full, points-fit, regions-fit, length-recs, length-ents, recs-take, ents-take, word-at}
 use Rattle.kdb.proofs.Words.{page-rest, seen, good-points, good-regions, points-in, regions-in}
 use Rattle.words.specs.Words.{wordAt, Formed, Fit, allZero}

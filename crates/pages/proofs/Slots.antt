@@ -14,7 +14,7 @@ use Rattle.kdb.specs.Lists.{every, Each, same, tally}
 use Rattle.kdb.specs.Box.{Side, Box, Key, within}
 use Rattle.kdb.specs.Tree.{Rec}
 use Rattle.kdb.specs.Pages.{readRecs}
-use Rattle.kdb.proofs.Lists.{and-assoc, and-swap, and-false}
+use Rattle.kdb.proofs.Tests.{and-assoc, and-swap, and-false}
 use Rattle.kdb.proofs.Pages.{recs-keys}
 use Rattle.kdb.proofs.Words.{rec-turn}
 use Rattle.words.specs.Words.{regionAt, RegionIn}
