@@ -18,8 +18,9 @@ use Rattle.kdb.specs.Shape.{differ, Shaped, ShapedF}
 use Rattle.kdb.specs.Pool.{domains, rootAt, levelsAt, countAt, pagesIn, goodLength, goodHeader, view, reachedFrom, reached, Paths, Sound}
 use Rattle.kdb.specs.Print.{forest, treeAt, sound}
 use Rattle.kdb.specs.Calls as Calls
+use Rattle.kdb.specs.declared.Form.{Form}
 use Rattle.kdb.proofs.Length.{big}
-use Rattle.words.specs.Words.{Paged}
+use Rattle.words.specs.Words.{Fit}
 use Rattle.words.proofs.Laws.{pages}
 use Rattle.kdb.proofs.Tests.{and-l, and-r, and-i, bool, is-true, is-false, of-true, of-bit, no-bit, bool-eq}
 use Rattle.kdb.proofs.Lists.{each-map, each-every, every-each}
@@ -29,7 +30,7 @@ use Rattle.kdb.proofs.Pages.{FitsPage, read-page, page-full}
 use Rattle.kdb.proofs.Views.{Under, whole-under, tiles-under, whole-finite, among}
 use Rattle.kdb.proofs.Stands.{Stands}
 use Rattle.kdb.proofs.Pool.{length-iff, header-iff, boxes-at-page, used-number, Sound-stands, sound-iff}
-use Rattle.audit.specs.Walk.{calm, walkOf, freeOf, restOf, unmarked, audited}
+use Rattle.audit.specs.Walk.{calm, rootWalk, clearedOf, restOf, unmarked, audited}
 use Rattle.pages.proofs.Here.{PointsHere, RegionsHere, points-say, say-points, regions-say, say-regions}
 use Rattle.audit.proofs.Marks.{Marks, done, marks-nil, Adds, adds, marks-inside, marks}
 use Rattle.pages.proofs.Bits.{case}
@@ -247,9 +248,9 @@ module _ (L : ℕ) (w : List ℕ) (long : T (goodLength L w)) (head : T (goodHea
   room : pagesIn L w ≤ length unmarked
   room = length-iff L w .0 long .most
 
-  walk-shows : (m : List ℕ) → walkOf L w m .0 .bad ≡ false
-      → Shown (pagesIn L w) ((levelsAt w ≡ 0 → ⊥) → Good L w (levelsAt w - 1) (rootAt w) (whole (domains w))) (reached L w) (pointsOn L w (reached L w)) (calm (countAt w)) m (walkOf L w m)
-  unfolding walkOf
+  walk-shows : (m : List ℕ) → rootWalk L w m .0 .bad ≡ false
+      → Shown (pagesIn L w) ((levelsAt w ≡ 0 → ⊥) → Good L w (levelsAt w - 1) (rootAt w) (whole (domains w))) (reached L w) (pointsOn L w (reached L w)) (calm (countAt w)) m (rootWalk L w m)
+  unfolding rootWalk
   walk-shows m h =
       case (eqb (levelsAt w) 0)
       (λ e. rw e (record { calmly = refl; good = λ z. absurd (z (eqb-true (levelsAt w) 0 e)); marks = done; count = omega arith }))
@@ -257,8 +258,8 @@ module _ (L : ℕ) (w : List ℕ) (long : T (goodLength L w)) (head : T (goodHea
       rw e (record { calmly = s .calmly; good = λ z. s .good; marks = s .marks; count = s .count }))
 
   walk-runs : (m m′ : List ℕ) → ((levelsAt w ≡ 0 → ⊥) → Good L w (levelsAt w - 1) (rootAt w) (whole (domains w))) → Marks (pagesIn L w) (reached L w) m m′
-      → countAt w ≡ pointsOn L w (reached L w) → walkOf L w m ≡ (calm 0, m′)
-  unfolding walkOf
+      → countAt w ≡ pointsOn L w (reached L w) → rootWalk L w m ≡ (calm 0, m′)
+  unfolding rootWalk
   walk-runs m m′ g r c =
       case (eqb (levelsAt w) 0)
       (λ e. let r′ : Marks (pagesIn L w) [] m m′ = rw e at r in let c′ : countAt w ≡ 0 = rw e at c in
@@ -267,18 +268,18 @@ module _ (L : ℕ) (w : List ℕ) (long : T (goodLength L w)) (head : T (goodHea
       let c′ : countAt w ≡ pointsOn L w (reachedFrom L w (levelsAt w - 1) (rootAt w)) = rw e at c in
       rw e (page-runs L w (levelsAt w - 1) (rootAt w) (whole (domains w)) (countAt w) 0 m m′ (g (eqb-false (levelsAt w) 0 e)) r′ (omega arith)))
 
-  free-says : (m : List ℕ) (j : ℕ) → T (freeOf L w m j) → getD m j 0 ≡ 0 → T (every (eqb 0) (page L w j))
-  unfolding freeOf
+  free-says : (m : List ℕ) (j : ℕ) → T (clearedOf L w m j) → getD m j 0 ≡ 0 → T (every (eqb 0) (page L w j))
+  unfolding clearedOf
   free-says m j h z = rw (eq-eqb (getD m j 0) 0 z) at h
 
-  says-free : (m : List ℕ) (j : ℕ) → (getD m j 0 ≡ 0 → T (every (eqb 0) (page L w j))) → T (freeOf L w m j)
-  unfolding freeOf
+  says-free : (m : List ℕ) (j : ℕ) → (getD m j 0 ≡ 0 → T (every (eqb 0) (page L w j))) → T (clearedOf L w m j)
+  unfolding clearedOf
   says-free m j f = case (eqb (getD m j 0) 0) (λ e. rw e (f (eqb-true (getD m j 0) 0 e))) (λ e. rw e tt)
 
   audit-passed : T (audited L w) → Passed
   unfolding audited restOf
   audit-passed h =
-      let t = walkOf L w unmarked in
+      let t = rootWalk L w unmarked in
       let calmly = is-false (t .0 .bad) (and-l (not (t .0 .bad)) _ (and-l (not (t .0 .bad) && eqb (t .0 .left) 0) _ h)) in
       let zero : t .0 .left ≡ 0 = eqb→eq (t .0 .left) 0 (and-r (not (t .0 .bad)) _ (and-l (not (t .0 .bad) && eqb (t .0 .left) 0) _ h)) in
       let s = walk-shows unmarked calmly in
@@ -288,7 +289,7 @@ module _ (L : ℕ) (w : List ℕ) (long : T (goodLength L w)) (head : T (goodHea
         inside = λ y i. marks-inside (pagesIn L w) y (reached L w) unmarked (t .1) (s .marks) i;
         once = λ y. omega (arith, a y .sum, a y .most, clear y);
         count = omega (arith, s .count, zero);
-        free = λ j x y o. free-says (t .1) j (every-up (freeOf L w (t .1)) (pagesIn L w - 1) 1 (and-r (not (t .0 .bad) && eqb (t .0 .left) 0) _ h) j x (omega arith))
+        free = λ j x y o. free-says (t .1) j (every-up (clearedOf L w (t .1)) (pagesIn L w - 1) 1 (and-r (not (t .0 .bad) && eqb (t .0 .left) 0) _ h) j x (omega arith))
             (omega (arith, a j .sum, clear j));
       }
 
@@ -296,9 +297,9 @@ module _ (L : ℕ) (w : List ℕ) (long : T (goodLength L w)) (head : T (goodHea
   unfolding audited restOf
   passed-audit p =
       let m = marks (pagesIn L w) (reached L w) unmarked room (p .inside) (λ y. omega (arith, p .once y, clear y)) in
-      let e : walkOf L w unmarked ≡ (calm 0, m .0) = walk-runs unmarked (m .0) (p .good) (m .1) (p .count) in
+      let e : rootWalk L w unmarked ≡ (calm 0, m .0) = walk-runs unmarked (m .0) (p .good) (m .1) (p .count) in
       let a : (y : ℕ) → Adds y (reached L w) unmarked (m .0) = λ y. adds (pagesIn L w) y (reached L w) unmarked (m .0) (m .1) room (omega (arith, clear y)) in
-      rw e (up-every (freeOf L w (m .0)) (pagesIn L w - 1) 1
+      rw e (up-every (clearedOf L w (m .0)) (pagesIn L w - 1) 1
       (λ j x y. says-free (m .0) j (λ o. p .free j x (omega arith) (omega (arith, a j .sum, clear j)))))
 
 module _ (L : ℕ) (w : List ℕ) (S : Sound L w) where
@@ -358,12 +359,10 @@ audit-is L big w long head =
     let s = sound-iff L big w in
     bool-eq (audited L w) (sound L w) (λ h. s .1 (a .0 h)) (λ h. a .1 (s .0 h))
 
--- the same of a pool of n pages, as code has it
-pub audit-says : (w : List ℕ) (n : ℕ) → Paged w n → goodHeader Calls.L w ≡ true → audited Calls.L w ≡ sound Calls.L w
-audit-says w n g e =
-    let p = pages w n g in
+-- the same of a pool of form f, as code has it
+pub audit-says : (w : List ℕ) (f : Form) → Fit w f → goodHeader Calls.L w ≡ true → audited Calls.L w ≡ sound Calls.L w
+audit-says w f h e =
+    let g = h .formed in
+    let p = pages w f g in
     audit-is Calls.L big w (length-iff Calls.L w .1 (record { long = omega (arith, g .words, p); least = omega (arith, g .least, p); most = omega (arith, g .most, p) }))
     (of-true (goodHeader Calls.L w) e)
-
-pub header-domains : (w : List ℕ) → goodHeader Calls.L w ≡ true → (1 ≤ domains w) × (domains w ≤ 4)
-header-domains w e = let h = header-iff Calls.L w .0 (of-true (goodHeader Calls.L w) e) in (h .least, h .most)

@@ -13,62 +13,67 @@ use Rattle.kdb.specs.Box.{Box, whole}
 use Rattle.kdb.specs.Pages.{Ent, recsIn, entsIn, readEnts, page}
 use Rattle.kdb.specs.Pool.{domains, rootAt, levelsAt, countAt, view}
 use Rattle.kdb.specs.Calls.{L}
+use Rattle.kdb.specs.declared.Form.{Form}
 use Rattle.kdb.proofs.Tests.{and-t, and-true, and-assoc}
 use Rattle.kdb.proofs.Words.{entAt, ent-turn}
 use Rattle.words.specs.Loops.{allBy}
-use Rattle.words.specs.Words.{Paged}
+use Rattle.words.specs.Words.{regionAt, Formed}
 use Rattle.words.proofs.Laws.{pages}
-use Rattle.cover.specs.Boxes.{regionIn}
 use Rattle.audit.specs.declared.Seen.{Seen}
-use Rattle.pages.specs.Tests.{Numbered}
+use Rattle.pages.specs.Tests.{PageOf}
 use Rattle.pages.specs.Kinds.{soundPoints, soundRegions}
-use Rattle.audit.specs.Walk.{Way, spoilt, calm, through, freshOf, fresh, leafOf, pageOf, walkOf, freeOf, restOf, unmarked, audited}
+use Rattle.audit.specs.Walk.{Way, spoilt, calm, entryByEntry, freshOf, fresh, leafOf, pageOf, rootWalk, clearedOf, restOf, unmarked, audited}
 
 module _ (step : Ent → Seen → List ℕ → Way) (w : List ℕ) (k c e a : ℕ) (s : Seen) (m : List ℕ) (v : Way) where
-  pub entries-end : through step (readEnts k (c - e) (drop a w)) s m ≡ v → c ≤ e → (s, m) ≡ v
-  unfolding through
+  pub entries-end : entryByEntry step (readEnts k (c - e) (drop a w)) s m ≡ v → c ≤ e → (s, m) ≡ v
+  unfolding entryByEntry
   entries-end q h = let z : c - e ≡ 0 = omega arith in rw z at q
 
-  pub entries-next : through step (readEnts k (c - e) (drop a w)) s m ≡ v → e < c
-      → through step (readEnts k (c - (e + 1)) (drop (a + (2 * k + 1)) w)) (step (entAt k w a) s m .0) (step (entAt k w a) s m .1) ≡ v
-  unfolding through
+  pub entries-next : entryByEntry step (readEnts k (c - e) (drop a w)) s m ≡ v → e < c
+      → entryByEntry step (readEnts k (c - (e + 1)) (drop (a + (2 * k + 1)) w)) (step (entAt k w a) s m .0) (step (entAt k w a) s m .1) ≡ v
+  unfolding entryByEntry
   entries-next q h = rw (ent-turn k c e w a h) at q
 
--- a page that may be looked at has the number of a page
-pub fresh-number : (n j : ℕ) (m : List ℕ) (s : Seen) → freshOf n j m s ≡ true → Numbered n j
-fresh-number n j m s e =
-    let a = and-t (not (s .bad) && not (eqb j 0) && ltb j n) _ e in
+-- a page that may be looked at has the number of a page, which lies in the pool
+pub record Within (w : List ℕ) (f : Form) (j : ℕ) : Type 0 where
+  pub number : PageOf f j
+  pub ends : L * j + L ≤ length w
+  pub near : length w ≤ L * 512
+
+pub fresh-within : (w : List ℕ) (f : Form) → Formed w f → (j : ℕ) (m : List ℕ) (s : Seen) → freshOf (f .pages) j m s ≡ true → Within w f j
+fresh-within w f g j m s e =
+    let a = and-t (not (s .bad) && not (eqb j 0) && ltb j (f .pages)) _ e in
     let b = and-t (not (s .bad) && not (eqb j 0)) _ (a .0) in
     let z : j ≡ 0 → ⊥ = eqb-false j 0 (not-true (eqb j 0) (and-t (not (s .bad)) _ (b .0) .1)) in
-    record { some = omega arith; page = ltb-true j n (b .1) }
+    let h = ltb-true j (f .pages) (b .1) in
+    record { number = record { some = omega arith; page = h }; ends = omega arith; near = omega arith }
 
-module _ (l : ℕ) (w : List ℕ) (n : ℕ) (g : Paged w n) (j : ℕ) (r : Box) (s : Seen) (m : List ℕ) where
-  -- n is the number of pages
-  fresh-is : (t : Bool) → freshOf n j m s ≡ t → fresh L w j m s ≡ t
-  fresh-is t e = rw (pages w n g) e
+module _ (l : ℕ) (w : List ℕ) (f : Form) (g : Formed w f) (j : ℕ) (r : Box) (s : Seen) (m : List ℕ) where
+  fresh-is : (t : Bool) → freshOf (f .pages) j m s ≡ t → fresh L w j m s ≡ t
+  fresh-is t e = rw (pages w f g) e
 
-  pub page-bad : freshOf n j m s ≡ false → (spoilt (s .left), m) ≡ pageOf L w (l - 1) j r s m
+  pub page-bad : freshOf (f .pages) j m s ≡ false → (spoilt (s .left), m) ≡ pageOf L w (l - 1) j r s m
   unfolding pageOf
-  page-bad f = go (fresh-is false f) (l - 1)
+  page-bad a = go (fresh-is false a) (l - 1)
     where
       go : fresh L w j m s ≡ false → (x : ℕ) → (spoilt (s .left), m) ≡ pageOf L w x j r s m
-      go f zero = rw f
-      go f (suc x) = rw f
+      go a zero = rw a
+      go a (suc x) = rw a
 
-  pub page-leaf : freshOf n j m s ≡ true → l ≤ 1 → (leafOf L w j r (s .left), set m j 1) ≡ pageOf L w (l - 1) j r s m
+  pub page-leaf : freshOf (f .pages) j m s ≡ true → l ≤ 1 → (leafOf L w j r (s .left), set m j 1) ≡ pageOf L w (l - 1) j r s m
   unfolding pageOf
-  page-leaf f h = let z : l - 1 ≡ 0 = omega arith in rw z (rw (fresh-is true f))
+  page-leaf a h = let z : l - 1 ≡ 0 = omega arith in rw z (rw (fresh-is true a))
 
-  pub page-spoilt : freshOf n j m s ≡ true → 1 < l → soundRegions L w j r ≡ false → (spoilt (s .left), set m j 1) ≡ pageOf L w (l - 1) j r s m
+  pub page-spoilt : freshOf (f .pages) j m s ≡ true → 1 < l → soundRegions L w j r ≡ false → (spoilt (s .left), set m j 1) ≡ pageOf L w (l - 1) j r s m
   unfolding pageOf
-  page-spoilt f h t = let z : l - 1 ≡ suc (l - 1 - 1) = omega arith in rw z (rw (fresh-is true f, t))
+  page-spoilt a h t = let z : l - 1 ≡ suc (l - 1 - 1) = omega arith in rw z (rw (fresh-is true a, t))
 
-  pub page-entries : freshOf n j m s ≡ true → 1 < l → soundRegions L w j r ≡ true
-      → through (λ e. pageOf L w (l - 1 - 1) (e .child) (e .box)) (entsIn (view L w j)) (calm (s .left)) (set m j 1) ≡ pageOf L w (l - 1) j r s m
+  pub page-entries : freshOf (f .pages) j m s ≡ true → 1 < l → soundRegions L w j r ≡ true
+      → entryByEntry (λ e. pageOf L w (l - 1 - 1) (e .child) (e .box)) (entsIn (view L w j)) (calm (s .left)) (set m j 1) ≡ pageOf L w (l - 1) j r s m
   unfolding pageOf
-  page-entries f h t =
+  page-entries a h t =
       let z : l - 1 ≡ suc (l - 1 - 1) = omega arith in
-      let e : through (λ x. pageOf L w (l - 1 - 1) (x .child) (x .box)) (entsIn (view L w j)) (calm (s .left)) (set m j 1) ≡ pageOf L w (suc (l - 1 - 1)) j r s m = rw (fresh-is true f, t) in
+      let e : entryByEntry (λ x. pageOf L w (l - 1 - 1) (x .child) (x .box)) (entsIn (view L w j)) (calm (s .left)) (set m j 1) ≡ pageOf L w (suc (l - 1 - 1)) j r s m = rw (fresh-is true a, t) in
       e ∙ ap (λ (x : ℕ). pageOf L w x j r s m) (sym z)
 
 module _ (w : List ℕ) (j : ℕ) (r : Box) (left : ℕ) where
@@ -85,24 +90,24 @@ module _ (w : List ℕ) (j : ℕ) (r : Box) (left : ℕ) where
   leaf-found g h = rw (g, le-ltb _ _ h)
 
 module _ (w m : List ℕ) where
-  pub walk-none : levelsAt w ≡ 0 → (calm (countAt w), m) ≡ walkOf L w m
-  unfolding walkOf
+  pub walk-none : levelsAt w ≡ 0 → (calm (countAt w), m) ≡ rootWalk L w m
+  unfolding rootWalk
   walk-none h = rw (eq-eqb _ _ h)
 
-  pub walk-page : (levelsAt w ≡ 0 → ⊥) → pageOf L w (levelsAt w - 1) (rootAt w) (whole (domains w)) (calm (countAt w)) m ≡ walkOf L w m
-  unfolding walkOf
+  pub walk-page : (levelsAt w ≡ 0 → ⊥) → pageOf L w (levelsAt w - 1) (rootAt w) (whole (domains w)) (calm (countAt w)) m ≡ rootWalk L w m
+  unfolding rootWalk
   walk-page h = rw (ne-eqb _ _ h)
 
-  pub free-met : (j : ℕ) → (getD m j 0 ≡ 0 → ⊥) → true ≡ freeOf L w m j
-  unfolding freeOf
+  pub free-met : (j : ℕ) → (getD m j 0 ≡ 0 → ⊥) → true ≡ clearedOf L w m j
+  unfolding clearedOf
   free-met j h = rw (ne-eqb _ _ h)
 
-  pub free-not : (j : ℕ) → getD m j 0 ≡ 0 → every (eqb 0) (page L w j) ≡ freeOf L w m j
-  unfolding freeOf
+  pub free-not : (j : ℕ) → getD m j 0 ≡ 0 → every (eqb 0) (page L w j) ≡ clearedOf L w m j
+  unfolding clearedOf
   free-not j h = rw (eq-eqb _ _ h)
 
 -- the eight words of which k lower and k upper ends of the whole space are cut out
-pub whole-words : (k : ℕ) → 1 ≤ k → k ≤ 4 → regionIn k (0 ∷ 0 ∷ 0 ∷ 0 ∷ 4294967295 ∷ 4294967295 ∷ 4294967295 ∷ 4294967295 ∷ []) (4 - k) ≡ whole k
+pub whole-words : (k : ℕ) → 1 ≤ k → k ≤ 4 → regionAt k (0 ∷ 0 ∷ 0 ∷ 0 ∷ 4294967295 ∷ 4294967295 ∷ 4294967295 ∷ 4294967295 ∷ []) (4 - k) ≡ whole k
 whole-words zero h g = absurd (omega arith)
 whole-words (suc zero) h g = refl
 whole-words (suc (suc zero)) h g = refl
@@ -111,7 +116,7 @@ whole-words (suc (suc (suc (suc zero)))) h g = refl
 whole-words (suc (suc (suc (suc (suc k))))) h g = absurd (omega arith)
 
 -- what the audit answers
-module _ (w : List ℕ) (t : Way) (e : t ≡ walkOf L w unmarked) where
+module _ (w : List ℕ) (t : Way) (e : t ≡ rootWalk L w unmarked) where
   pub audited-bad : t .0 .bad || not (eqb (t .0 .left) 0) ≡ true → false ≡ audited L w
   unfolding audited
   audited-bad h = rw (← e) (go (t .0 .bad) (eqb (t .0 .left) 0) (restOf L w (t .1)) h)

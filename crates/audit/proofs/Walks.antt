@@ -19,7 +19,7 @@ use Rattle.audit.specs.declared.Seen.{Seen}
 use Rattle.pages.specs.Kinds.{soundPoints, soundRegions}
 use Rattle.pages.proofs.Here.{regions-say}
 use Rattle.pages.proofs.Bits.{case, true-false}
-use Rattle.audit.specs.Walk.{Way, calm, through, fresh, leafOf, pageOf}
+use Rattle.audit.specs.Walk.{Way, calm, entryByEntry, fresh, leafOf, pageOf}
 use Rattle.audit.proofs.Marks.{Marks, done, next, marks-append, marks-nil, marks-split, first}
 
 pub no-recs : (v : Page) → T (isRegions v) → recsIn v ≡ []
@@ -82,10 +82,10 @@ module _ (L : ℕ) (w : List ℕ) where
   PageShows l = (j : ℕ) (r : Box) (s : Seen) (m : List ℕ) → pageOf L w l j r s m .0 .bad ≡ false
       → Shown (pagesIn L w) (Good l j r) (reachedFrom L w l j) (pointsOn (reachedFrom L w l j)) s m (pageOf L w l j r s m)
 
-  entries-show : (l : ℕ) → PageShows l → (es : List Ent) (s : Seen) (m : List ℕ) → through (λ e. pageOf L w l (e .child) (e .box)) es s m .0 .bad ≡ false
+  entries-show : (l : ℕ) → PageShows l → (es : List Ent) (s : Seen) (m : List ℕ) → entryByEntry (λ e. pageOf L w l (e .child) (e .box)) es s m .0 .bad ≡ false
       → Shown (pagesIn L w) (Each (λ e. Good l (e .child) (e .box)) es) (gather (λ e. reachedFrom L w l (e .child)) es)
-      (pointsOn (gather (λ e. reachedFrom L w l (e .child)) es)) s m (through (λ e. pageOf L w l (e .child) (e .box)) es s m)
-  unfolding through
+      (pointsOn (gather (λ e. reachedFrom L w l (e .child)) es)) s m (entryByEntry (λ e. pageOf L w l (e .child) (e .box)) es s m)
+  unfolding entryByEntry
   entries-show l f [] s m h = record { calmly = h; good = tt; marks = done; count = sym (zero-add (s .left)) }
   entries-show l f (e ∷ es) s m h =
       let u = pageOf L w l (e .child) (e .box) s m in
@@ -139,8 +139,8 @@ module _ (L : ℕ) (w : List ℕ) where
 
   entries-run : (l : ℕ) → PageRuns l → (es : List Ent) (left left′ : ℕ) (m m′ : List ℕ) → Each (λ e. Good l (e .child) (e .box)) es
       → Marks (pagesIn L w) (gather (λ e. reachedFrom L w l (e .child)) es) m m′ → left ≡ pointsOn (gather (λ e. reachedFrom L w l (e .child)) es) + left′
-      → through (λ e. pageOf L w l (e .child) (e .box)) es (calm left) m ≡ (calm left′, m′)
-  unfolding through
+      → entryByEntry (λ e. pageOf L w l (e .child) (e .box)) es (calm left) m ≡ (calm left′, m′)
+  unfolding entryByEntry
   entries-run l f [] left left′ m m′ g r c = let e : left ≡ left′ = omega arith in ap₂ (λ x y. (calm x, y)) e (marks-nil r)
   entries-run l f (e ∷ es) left left′ m m′ g r c =
       let xs = reachedFrom L w l (e .child) in
@@ -148,7 +148,7 @@ module _ (L : ℕ) (w : List ℕ) where
       let i = marks-split xs ys r in
       let u : pageOf L w l (e .child) (e .box) (calm left) m ≡ (calm (pointsOn ys + left′), i .0) =
       f (e .child) (e .box) left (pointsOn ys + left′) m (i .0) (g .0) (i .1) (omega (arith, c, sum-append recsAt xs ys)) in
-      ap (λ t. through (λ d. pageOf L w l (d .child) (d .box)) es (t .0) (t .1)) u
+      ap (λ t. entryByEntry (λ d. pageOf L w l (d .child) (d .box)) es (t .0) (t .1)) u
       ∙ entries-run l f es (pointsOn ys + left′) left′ (i .0) m′ (g .1) (i .2) refl
 
   leaf-runs : (j : ℕ) (r : Box) (left left′ : ℕ) → T (soundPoints L w j r) → left ≡ recsAt j + left′ → leafOf L w j r left ≡ calm left′

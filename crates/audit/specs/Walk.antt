@@ -31,9 +31,9 @@ abbrev pub freshOf : ℕ → ℕ → List ℕ → Seen → Bool
 freshOf n j m s = not (s .bad) && not (eqb j 0) && ltb j n && eqb (getD m j 0) 0
 
 -- entry by entry
-unfoldable pub through : (Ent → Seen → List ℕ → Way) → List Ent → Seen → List ℕ → Way
-through step [] s m = (s, m)
-through step (e ∷ es) s m = let t = step e s m in through step es (t .0) (t .1)
+unfoldable pub entryByEntry : (Ent → Seen → List ℕ → Way) → List Ent → Seen → List ℕ → Way
+entryByEntry step [] s m = (s, m)
+entryByEntry step (e ∷ es) s m = let t = step e s m in entryByEntry step es (t .0) (t .1)
 
 -- L is the words of a page, w the pool's words
 module _ (L : ℕ) (w : List ℕ) where
@@ -50,21 +50,21 @@ module _ (L : ℕ) (w : List ℕ) where
   unfoldable pub pageOf : ℕ → ℕ → Box → Seen → List ℕ → Way
   pageOf zero j r s m = cond (fresh j m s) (leafOf j r (s .left), set m j 1) (spoilt (s .left), m)
   pageOf (suc l) j r s m =
-      let t = through (λ e. pageOf l (e .child) (e .box)) (entsIn (view L w j)) (calm (s .left)) (set m j 1) in
+      let t = entryByEntry (λ e. pageOf l (e .child) (e .box)) (entsIn (view L w j)) (calm (s .left)) (set m j 1) in
       cond (fresh j m s) (cond (soundRegions L w j r) t (spoilt (s .left), set m j 1)) (spoilt (s .left), m)
 
   -- all that the header's root names
-  unfoldable pub walkOf : List ℕ → Way
-  walkOf m =
+  unfoldable pub rootWalk : List ℕ → Way
+  rootWalk m =
       let t = pageOf (levelsAt w - 1) (rootAt w) (whole (domains w)) (calm (countAt w)) m in
       cond (eqb (levelsAt w) 0) (calm (countAt w), m) t
 
   -- page j was met, or is all zero
-  unfoldable pub freeOf : List ℕ → ℕ → Bool
-  freeOf m j = cond (eqb (getD m j 0) 0) (every (eqb 0) (page L w j)) true
+  unfoldable pub clearedOf : List ℕ → ℕ → Bool
+  clearedOf m j = cond (eqb (getD m j 0) 0) (every (eqb 0) (page L w j)) true
 
   unfoldable pub restOf : List ℕ → Bool
-  restOf m = every (freeOf m) (numbers L w)
+  restOf m = every (clearedOf m) (numbers L w)
 
   unfoldable pub audited : Bool
-  audited = let t = walkOf unmarked in not (t .0 .bad) && eqb (t .0 .left) 0 && restOf (t .1)
+  audited = let t = rootWalk unmarked in not (t .0 .bad) && eqb (t .0 .left) 0 && restOf (t .1)

@@ -1,5 +1,5 @@
-pub mod Tests
-pub mod Tile
-pub mod Grid
 pub mod Loops
+pub mod Grid
+pub mod Tile
+pub mod Amounts
 pub mod Regions

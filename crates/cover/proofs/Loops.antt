@@ -1,34 +1,17 @@
--- Laws of the loops that leave at the first test that fails, of rows of entries, and of volumes in two words.
-use mathlib.Core.Bool.{Bool, true, false}
-use mathlib.Core.List.{List}
-use mathlib.Core.Path.{_≡_, refl, sym, ap, _∙_}
-use Prim.Native.Nat.{ℕ, zero, suc, _+_, _-_, _*_, _^_, _/_, _%_, _<_, _≤_}
+-- Laws of one turn and of the end of the loops over a row of entries, over the sides of regions and over the regions of a row.
+use mathlib.Core.Bool.{Bool, true, false, _&&_}
+use mathlib.Core.List.{List, [], _∷_, map}
+use mathlib.Core.Path.{_≡_, refl, ap}
+use Prim.Native.Nat.{ℕ, zero, suc, _+_, _-_, _*_, _<_, _≤_}
 use native.Mathlib.Omega.{arith}
-use native.Mathlib.Nat.{suc-mul, add-mul, mul-assoc, mul-right-comm, mul-le-mul, mul-le-mul-right, one-mul, mul-one, sub-add-cancel, sub-zero, div-add-mod'}
+use native.Mathlib.Nat.{suc-mul}
 use native.Mathlib.Numerals.{add-one}
-use lib.Dec.{T, leb, ltb, leb→le, nleb→lt, ltb→lt, nltb→le}
-use lib.ListN.{length, getD}
-use Rattle.kdb.specs.Box.{solid}
-use Rattle.kdb.proofs.Tests.{bool, and-l, and-r}
-use Rattle.words.specs.Loops.{allBy}
-use Rattle.words.specs.Words.{RegionIn}
-use Rattle.cover.specs.Boxes.{sidesBy, sideAt, boxAt, Row}
-use Rattle.cover.specs.Volume.{volumeOf, value, bound, Sides}
-use Rattle.cover.specs.declared.Amount.{Amount}
-
-all-false : (n : ℕ) (f : ℕ → ℕ → Bool) (d a : ℕ) → allBy n f d a false ≡ false
-unfolding allBy
-all-false zero f d a = refl
-all-false (suc n) f d a = all-false n f d (a + d)
-
-module _ (c e : ℕ) (f : ℕ → ℕ → Bool) (d a : ℕ) (w : Bool) where
-  pub all-on : allBy (c - e) f d a true ≡ w → e < c → f (c - (e + 1)) a ≡ true → allBy (c - (e + 1)) f d (a + d) true ≡ w
-  unfolding allBy
-  all-on v h t = let q : c - e ≡ suc (c - (e + 1)) = omega arith in sym (ap (allBy (c - (e + 1)) f d (a + d)) t) ∙ (rw q at v)
-
-  pub all-stop : allBy (c - e) f d a true ≡ w → e < c → f (c - (e + 1)) a ≡ false → false ≡ w
-  unfolding allBy
-  all-stop v h t = let q : c - e ≡ suc (c - (e + 1)) = omega arith in sym (all-false (c - (e + 1)) f d (a + d)) ∙ (sym (ap (allBy (c - (e + 1)) f d (a + d)) t) ∙ (rw q at v))
+use lib.ListN.{length, take, drop, getD, length-take, length-drop, drop-of-length-le}
+use lib.Seq.{getD-take, getD-drop, length-take-le}
+use Rattle.kdb.specs.Box.{Side, Box, sides}
+use Rattle.kdb.proofs.Words.{ent-turn}
+use Rattle.words.specs.Words.{regionAt, RegionIn}
+use Rattle.cover.specs.Boxes.{Row, regionsAt, sideBySide, insideOf, overlap, clearOf, fitting}
 
 -- the first of the entries that are left, and those after it
 module _ (w : List ℕ) (d a c e : ℕ) (h : Row w d a (c - e)) (l : e < c) where
@@ -43,134 +26,91 @@ module _ (w : List ℕ) (d a c e : ℕ) (h : Row w d a (c - e)) (l : e < c) wher
 pub region-first : (w : List ℕ) (k a c e : ℕ) → Row w (2 * k + 1) a (c - e) → e < c → RegionIn w k a
 region-first w k a c e h l = let r = row-first w (2 * k + 1) a c e h l in record { few = omega (arith, h .wide); near = omega (arith, h .near); ends = omega arith }
 
--- two factors below 2 ^ 32, and v times w by halves of the lower word
-pub factors : (x w : ℕ) → x < 2 ^ 32 → w < 2 ^ 32 → x * w ≤ 18446744065119617025
-factors x w h g = mul-le-mul {n₂ = 4294967295} {m₂ = 4294967295} (omega arith) (omega arith)
+-- the side in domain i of the region at word a
+abbrev pub sideAt : List ℕ → ℕ → ℕ → ℕ → Side
+sideAt w k a i = record { lo = getD w (a + i) 0; hi = getD w (a + k + i) 0 }
 
-times-is : (h l w : ℕ)
-    → (h * w + (l / 4294967296 * w + l % 4294967296 * w / 4294967296) / 4294967296) * 2 ^ 64
-    + ((l / 4294967296 * w + l % 4294967296 * w / 4294967296) % 4294967296 * 4294967296 + l % 4294967296 * w % 4294967296) ≡ (h * 2 ^ 64 + l) * w
-times-is h l w =
-    let a : (h * 2 ^ 64 + l) * w ≡ h * w * 2 ^ 64 + l * w = add-mul (h * 2 ^ 64) l w ∙ ap (λ (n : ℕ). n + l * w) (mul-right-comm h (2 ^ 64) w) in
-    let b : l * w ≡ l / 4294967296 * w * 4294967296 + l % 4294967296 * w =
-    ap (λ (n : ℕ). n * w) (sym (div-add-mod' l 4294967296))
-    ∙ (add-mul (l / 4294967296 * 4294967296) (l % 4294967296) w ∙ ap (λ (n : ℕ). n + l % 4294967296 * w) (mul-right-comm (l / 4294967296) 4294967296 w)) in
-    omega arith
+sides-turn : (ls us : List ℕ) (i : ℕ) → i < length ls → i < length us → drop i (sides ls us) ≡ record { lo = getD ls i 0; hi = getD us i 0 } ∷ drop (suc i) (sides ls us)
+sides-turn [] us i h g = absurd (omega arith)
+sides-turn (l ∷ ls) [] i h g = absurd (omega arith)
+sides-turn (l ∷ ls) (u ∷ us) zero h g = refl
+sides-turn (l ∷ ls) (u ∷ us) (suc i) h g = sides-turn ls us i (omega arith) (omega arith)
 
--- one number of two words less another: the base m of the words is left unknown
-module _ (m h l g n : ℕ) (lm : l < m) (nm : n < m) (le : g * m + n ≤ h * m + l) where
-  less-high : g ≤ h
-  less-high = bool (leb g h) (leb→le g h) (λ t. let z = nleb→lt g h t in absurd (omega (arith, mul-le-mul-right {m = suc h} {n = g} m (omega arith), suc-mul h m)))
+sides-most : (ls us : List ℕ) → length (sides ls us) ≤ length ls
+sides-most [] us = omega arith
+sides-most (l ∷ ls) [] = omega arith
+sides-most (l ∷ ls) (u ∷ us) = omega (arith, sides-most ls us)
 
-  -- without and with a carry
-  less-plain : n ≤ l → (h - g) * m + (l - n) + (g * m + n) ≡ h * m + l
-  less-plain q = omega (arith, ap (λ (x : ℕ). x * m) (sub-add-cancel less-high), add-mul (h - g) g m)
+pub side-turn : (w : List ℕ) (k a i : ℕ) → RegionIn w k a → i < k → drop i (regionAt k w a) ≡ sideAt w k a i ∷ drop (i + 1) (regionAt k w a)
+side-turn w k a i g h =
+    let ls = take k (drop a w) in
+    let us = take k (drop (a + k) w) in
+    let m : length ls ≡ k = length-take-le k (drop a w) (omega (arith, length-drop a w, g .ends)) in
+    let n : length us ≡ k = length-take-le k (drop (a + k) w) (omega (arith, length-drop (a + k) w, g .ends)) in
+    rw (add-one i) (rw (getD-take k (drop a w) i 0 h, getD-take k (drop (a + k) w) i 0 h, getD-drop a w i 0, getD-drop (a + k) w i 0) at (sides-turn ls us i (omega arith) (omega arith)))
 
-  less-strict : l < n → g < h
-  less-strict q = bool (ltb g h) (ltb→lt g h) (λ t. let z = nltb→le g h t in absurd (omega (arith, mul-le-mul-right m z)))
+pub side-end : (w : List ℕ) (k a i : ℕ) → k ≤ i → drop i (regionAt k w a) ≡ []
+side-end w k a i h = drop-of-length-le (regionAt k w a) {i = i} (omega (arith, sides-most (take k (drop a w)) (take k (drop (a + k) w)), length-take k (drop a w)))
 
-  less-carry : l < n → (h - g - 1) * m + (l + (m - 1 - n) + 1) + (g * m + n) ≡ h * m + l
-  less-carry q =
-      let z : h - g - 1 + suc g ≡ h = omega (arith, less-strict q) in
-      omega (arith, ap (λ (x : ℕ). x * m) z, add-mul (h - g - 1) (suc g) m, suc-mul g m)
+-- two regions side by side: the test of the sides from domain i on is v
+pub record Beside (f : Side → Side → Bool) (k : ℕ) (p : List ℕ) (a : ℕ) (q : List ℕ) (b i : ℕ) (v : Bool) : Type 0 where
+  pub one : RegionIn p k a
+  pub other : RegionIn q k b
+  pub rest : sideBySide f (drop i (regionAt k p a)) (drop i (regionAt k q b)) ≡ v
 
--- the same of the numbers that code holds
-pub times-value : (v r : Amount) (w : ℕ)
-    → r ≡ record { hi = v .hi * w + (v .lo / 4294967296 * w + v .lo % 4294967296 * w / 4294967296) / 4294967296; lo = (v .lo / 4294967296 * w + v .lo % 4294967296 * w / 4294967296) % 4294967296 * 4294967296 + v .lo % 4294967296 * w % 4294967296 }
-    → value r ≡ value v * w
-unfolding value
-times-value v r w e = rw e (times-is (v .hi) (v .lo) w)
-
-module _ (v w : Amount) (vs : v .lo < 2 ^ 64) (ws : w .lo < 2 ^ 64) (le : value w ≤ value v) where
-  pub carry-high : v .lo < w .lo → w .hi < v .hi
-  unfolding value
-  carry-high = less-strict (2 ^ 64) (v .hi) (v .lo) (w .hi) (w .lo) vs ws le
-
-  pub carry-value : (r : Amount) → r ≡ record { hi = v .hi - w .hi - 1; lo = v .lo + (18446744073709551615 - w .lo) + 1 } → v .lo < w .lo → value r + value w ≡ value v
-  unfolding value
-  carry-value r e h = rw e (less-carry (2 ^ 64) (v .hi) (v .lo) (w .hi) (w .lo) vs ws le h)
-
-  pub plain-high : w .hi ≤ v .hi
-  unfolding value
-  plain-high = less-high (2 ^ 64) (v .hi) (v .lo) (w .hi) (w .lo) vs ws le
-
-  pub plain-value : (r : Amount) → r ≡ record { hi = v .hi - w .hi; lo = v .lo - w .lo } → w .lo ≤ v .lo → value r + value w ≡ value v
-  unfolding value
-  plain-value r e h = rw e (less-plain (2 ^ 64) (v .hi) (v .lo) (w .hi) (w .lo) vs ws le h)
-
-value-low : (n : ℕ) → value (record { hi = 0; lo = n }) ≡ n
-unfolding value
-value-low n = omega arith
-
-pub value-none : (v : Amount) → v .hi ≡ 0 → v .lo ≡ 0 → value v ≡ 0
-unfolding value
-value-none v h l = rw (h, l)
-
-pub none-value : (v : Amount) → value v ≡ 0 → (v .hi ≡ 0) × (v .lo ≡ 0)
-unfolding value
-none-value v e = (omega arith, omega arith)
-
-bound-three : (i : ℕ) → i < 4 → bound i < 2 ^ 96
-unfolding bound
-bound-three zero h = omega arith
-bound-three (suc zero) h = omega arith
-bound-three (suc (suc zero)) h = omega arith
-bound-three (suc (suc (suc zero))) h = omega arith
-bound-three (suc (suc (suc (suc i)))) h = absurd (omega arith)
-
-sides-all : (w : List ℕ) (k a : ℕ) → T (solid (boxAt w k a)) → Sides w k a (record { hi = 0; lo = 1 }) 0
-unfolding bound value
-sides-all w k a t =
-    let q = sub-zero k in
-    record { product = rw q (omega (arith, one-mul (volumeOf (boxAt w k a)))); some = rw q t; small = omega arith }
-
-module _ (w : List ℕ) (k a : ℕ) (v : Amount) (i : ℕ) (s : Sides w k a v i) where
-  pub sides-end : k ≤ i → value v ≡ volumeOf (boxAt w k a)
-  sides-end h = let q : k - i ≡ 0 = omega arith in sym (mul-one (value v)) ∙ (rw q at (s .product))
+module _ (f : Side → Side → Bool) (k : ℕ) (p : List ℕ) (a : ℕ) (q : List ℕ) (b i : ℕ) (v : Bool) (m : Beside f k p a q b i v) where
+  pub beside-end : k ≤ i → true ≡ v
+  beside-end h = rw (side-end p k a i h, side-end q k b i h) at (m .rest)
 
   module _ (l : i < k) where
-    one-left : k - i ≡ suc (k - (i + 1))
-    one-left = omega arith
+    turn : f (sideAt p k a i) (sideAt q k b i) && sideBySide f (drop (i + 1) (regionAt k p a)) (drop (i + 1) (regionAt k q b)) ≡ v
+    turn = rw (side-turn p k a i (m .one) l, side-turn q k b i (m .other) l) at (m .rest)
 
-    -- the side in domain i is not empty, and the product so far is below 2 ^ 96
-    pub side-some : getD w (a + i) 0 < getD w (a + k + i) 0
-    side-some = ltb→lt _ _ (and-l (ltb (getD w (a + i) 0) (getD w (a + k + i) 0)) _ (rw one-left at (s .some)))
+    pub beside-stop : f (sideAt p k a i) (sideAt q k b i) ≡ false → false ≡ v
+    beside-stop t = rw t at turn
 
-    pub side-small : k ≤ 4 → v .hi < 2 ^ 32
-    unfolding value
-    side-small f = omega (arith, s .small, bound-three i (omega arith))
+    pub beside-next : f (sideAt p k a i) (sideAt q k b i) ≡ true → Beside f k p a q b (i + 1) v
+    beside-next t = record { one = m .one; other = m .other; rest = rw t at turn }
 
-    pub sides-next : (r : Amount) → getD w (a + k + i) 0 < 2 ^ 32 → value r ≡ value v * (getD w (a + k + i) 0 - getD w (a + i) 0) → Sides w k a r (i + 1)
-    unfolding bound
-    sides-next r f e =
-        record {
-          product = ap (λ (n : ℕ). n * volumeOf (sidesBy (k - (i + 1)) (sideAt w k a) (i + 1))) e ∙ (mul-assoc (value v) _ _ ∙ (rw one-left at (s .product)));
-          some = and-r (ltb (getD w (a + i) 0) (getD w (a + k + i) 0)) _ (rw one-left at (s .some));
-          small = rw (add-one i, e) (mul-le-mul (s .small) (omega arith));
-        }
+-- of c regions the one after e others, and the rest
+pub regions-turn : (k c e : ℕ) (w : List ℕ) (a : ℕ) → e < c → regionsAt k (c - e) w a ≡ regionAt k w a ∷ regionsAt k (c - (e + 1)) w (a + (2 * k + 1))
+regions-turn k c e w a l = ap (map (λ x. x .box)) (ent-turn k c e w a l)
 
--- the first side, and the first two, of a region that is not empty
-module _ (w : List ℕ) (k a : ℕ) (t : T (solid (boxAt w k a))) (f : getD w (a + k + 0) 0 < 2 ^ 32) where
-  pub first-some : 1 ≤ k → getD w (a + 0) 0 < getD w (a + k + 0) 0
-  first-some h = side-some w k a (record { hi = 0; lo = 1 }) 0 (sides-all w k a t) h
+pub regions-end : (k c e : ℕ) (w : List ℕ) (a : ℕ) → c ≤ e → regionsAt k (c - e) w a ≡ []
+regions-end k c e w a l = let q : c - e ≡ 0 = omega arith in rw q
 
-  first-sides : (h : 1 ≤ k) → Sides w k a (record { hi = 0; lo = getD w (a + k + 0) 0 - getD w (a + 0) 0 }) 1
-  unfolding value
-  first-sides h = sides-next w k a (record { hi = 0; lo = 1 }) 0 (sides-all w k a t) h (record { hi = 0; lo = getD w (a + k + 0) 0 - getD w (a + 0) 0 }) f (omega (arith, one-mul (getD w (a + k + 0) 0 - getD w (a + 0) 0)))
+-- the region r held against n regions from word a on, and each of these inside r and held against those after it: the test of them is v
+pub record Clear (w : List ℕ) (k a n : ℕ) (r : Box) (v : Bool) : Type 0 where
+  pub row : Row w (2 * k + 1) a n
+  pub rest : clearOf r (regionsAt k n w a) ≡ v
 
-  pub one-side : k ≡ 1 → Sides w k a (record { hi = 0; lo = getD w (a + k + 0) 0 - getD w (a + 0) 0 }) 2
-  unfolding bound value
-  one-side e =
-      let s = first-sides (omega arith) in
-      let q : k - 1 ≡ 0 = omega arith in
-      let z : k - 2 ≡ 0 = omega arith in
-      record { product = rw z (rw q at (s .product)); some = rw z tt; small = omega (arith, s .small) }
+pub record Fits (w : List ℕ) (k a n : ℕ) (r : Box) (v : Bool) : Type 0 where
+  pub row : Row w (2 * k + 1) a n
+  pub rest : fitting r (regionsAt k n w a) ≡ v
 
-  pub second-some : 2 ≤ k → getD w (a + 1) 0 < getD w (a + k + 1) 0
-  second-some h = side-some w k a (record { hi = 0; lo = getD w (a + k + 0) 0 - getD w (a + 0) 0 }) 1 (first-sides (omega arith)) h
+module _ (w : List ℕ) (k a c e : ℕ) (r : Box) (v : Bool) where
+  pub clear-end : Clear w k a (c - e) r v → c ≤ e → true ≡ v
+  clear-end m l = rw (regions-end k c e w a l) at (m .rest)
 
-  pub two-sides : 2 ≤ k → getD w (a + k + 1) 0 < 2 ^ 32 → Sides w k a (record { hi = 0; lo = (getD w (a + k + 0) 0 - getD w (a + 0) 0) * (getD w (a + k + 1) 0 - getD w (a + 1) 0) }) 2
-  two-sides h g =
-      sides-next w k a (record { hi = 0; lo = getD w (a + k + 0) 0 - getD w (a + 0) 0 }) 1 (first-sides (omega arith)) h
-      (record { hi = 0; lo = (getD w (a + k + 0) 0 - getD w (a + 0) 0) * (getD w (a + k + 1) 0 - getD w (a + 1) 0) }) g
-      (value-low _ ∙ ap (λ (n : ℕ). n * (getD w (a + k + 1) 0 - getD w (a + 1) 0)) (sym (value-low (getD w (a + k + 0) 0 - getD w (a + 0) 0))))
+  pub fits-end : Fits w k a (c - e) r v → c ≤ e → true ≡ v
+  fits-end m l = rw (regions-end k c e w a l) at (m .rest)
+
+  pub clear-stop : Clear w k a (c - e) r v → e < c → overlap r (regionAt k w a) ≡ true → false ≡ v
+  clear-stop m l t = rw t at (rw (regions-turn k c e w a l) at (m .rest))
+
+  pub clear-next : Clear w k a (c - e) r v → e < c → overlap r (regionAt k w a) ≡ false → Clear w k (a + (2 * k + 1)) (c - (e + 1)) r v
+  clear-next m l t = record { row = row-next w (2 * k + 1) a c e (m .row) l; rest = rw t at (rw (regions-turn k c e w a l) at (m .rest)) }
+
+  module _ (m : Fits w k a (c - e) r v) (l : e < c) where
+    first : (insideOf (regionAt k w a) r && clearOf (regionAt k w a) (regionsAt k (c - (e + 1)) w (a + (2 * k + 1)))) && fitting r (regionsAt k (c - (e + 1)) w (a + (2 * k + 1))) ≡ v
+    first = rw (regions-turn k c e w a l) at (m .rest)
+
+    pub fits-out : insideOf (regionAt k w a) r ≡ false → false ≡ v
+    fits-out t = rw t at first
+
+    module _ (t : insideOf (regionAt k w a) r ≡ true) where
+      pub fits-met : clearOf (regionAt k w a) (regionsAt k (c - (e + 1)) w (a + (2 * k + 1))) ≡ false → false ≡ v
+      fits-met u = rw (t, u) at first
+
+      pub fits-next : clearOf (regionAt k w a) (regionsAt k (c - (e + 1)) w (a + (2 * k + 1))) ≡ true → Fits w k (a + (2 * k + 1)) (c - (e + 1)) r v
+      fits-next u = record { row = row-next w (2 * k + 1) a c e (m .row) l; rest = rw (t, u) at first }

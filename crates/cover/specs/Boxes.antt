@@ -1,35 +1,16 @@
--- Regions as code finds them in words, and the tests of their entries one after the other.
+-- The regions of a page in words, and the tests of them, side by side and one after the other.
 use mathlib.Core.Bool.{Bool, true, false, _&&_, not}
 use mathlib.Core.List.{List, [], _∷_, map}
-use Prim.Native.Nat.{ℕ, zero, suc, _+_, _*_, _≤_, _<_, _^_}
+use Prim.Native.Nat.{ℕ, _+_, _*_, _≤_, _<_, _^_}
 use lib.Dec.{leb, ltb}
-use lib.ListN.{length, take, drop, getD}
+use lib.ListN.{length, drop}
 use Rattle.kdb.specs.Lists.{every}
-use Rattle.kdb.specs.Box.{Side, Box, sides}
+use Rattle.kdb.specs.Box.{Side, Box}
 use Rattle.kdb.specs.Pages.{readEnts}
 
--- m sides from domain i on
-abbrev pub sidesBy : ℕ → (ℕ → Side) → ℕ → Box
-sidesBy zero f i = []
-sidesBy (suc m) f i = f i ∷ sidesBy m f (i + 1)
-
--- the side in domain i, and the whole, of the region at word a; n regions from word a on
-abbrev pub sideAt : List ℕ → ℕ → ℕ → ℕ → Side
-sideAt w k a i = record { lo = getD w (a + i) 0; hi = getD w (a + k + i) 0 }
-
-abbrev pub boxAt : List ℕ → ℕ → ℕ → Box
-boxAt w k a = sidesBy k (sideAt w k a) 0
-
-abbrev pub boxesAt : ℕ → List ℕ → ℕ → ℕ → List Box
-boxesAt zero w k a = []
-boxesAt (suc n) w k a = boxAt w k a ∷ boxesAt n w k (a + (2 * k + 1))
-
--- the same as a page's view has them
-abbrev pub regionIn : ℕ → List ℕ → ℕ → Box
-regionIn k w a = sides (take k (drop a w)) (take k (drop (a + k) w))
-
-abbrev pub regionsIn : ℕ → ℕ → List ℕ → ℕ → List Box
-regionsIn k n w a = map (λ e. e .box) (readEnts k n (drop a w))
+-- n regions from word a on
+abbrev pub regionsAt : ℕ → ℕ → List ℕ → ℕ → List Box
+regionsAt k n w a = map (λ e. e .box) (readEnts k n (drop a w))
 
 -- count entries of d words from word a on end within the words
 pub record Row (w : List ℕ) (d a count : ℕ) : Type 0 where

@@ -3,8 +3,8 @@ use mathlib.Core.List.{List, [], _∷_}
 use mathlib.Core.Path.{_≡_}
 use Prim.Native.Nat.{ℕ, zero, suc, _+_, _*_, _-_, _^_, _≤_}
 use lib.Dec.{T}
+use lib.ListN.{drop}
 use Rattle.kdb.specs.Box.{Box, solid}
-use Rattle.cover.specs.Boxes.{sidesBy, sideAt, boxAt}
 use Rattle.cover.specs.declared.Amount.{Amount}
 
 -- the keys of one region, and of regions of which no two share a key
@@ -25,8 +25,8 @@ unfoldable pub bound : ℕ → ℕ
 bound zero = 1
 bound (suc i) = bound i * 4294967295
 
--- v is the product of the sides before domain i of the region at word a
-pub record Sides (w : List ℕ) (k a : ℕ) (v : Amount) (i : ℕ) : Type 0 where
-  pub product : value v * volumeOf (sidesBy (k - i) (sideAt w k a) i) ≡ volumeOf (boxAt w k a)
-  pub some : T (solid (sidesBy (k - i) (sideAt w k a) i))
+-- v is the product of the sides before domain i of the region
+pub record Sides (b : Box) (v : Amount) (i : ℕ) : Type 0 where
+  pub product : value v * volumeOf (drop i b) ≡ volumeOf b
+  pub some : T (solid (drop i b))
   pub small : value v ≤ bound i

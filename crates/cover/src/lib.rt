@@ -8,14 +8,14 @@ ghost use Prim.Native.Nat.{_+_, _*_, _-_, _≤_, _<_, _^_};
 ghost use lib.Dec.{T};
 ghost use Rattle.kdb.specs.Box.{solid};
 ghost use Rattle.kdb.specs.Tiling.{tiles};
-ghost use Rattle.words.specs.Words.{RegionIn};
-ghost use Rattle.cover.specs.Boxes.{boxAt, boxesAt, insideOf, overlap, clearOf, fitting, Row, regionIn, regionsIn};
+ghost use Rattle.words.specs.Words.{regionAt, RegionIn};
+ghost use Rattle.cover.specs.Boxes.{insideOf, overlap, clearOf, fitting, Row, regionsAt};
 ghost use Rattle.cover.specs.Volume.{value, volumeOf, Sides};
 
 // The region at word a of p is not empty and lies in the region at word b of q.
 fn inside(p: &[u32], a: usize, k: usize, q: &[u32], b: usize) -> bool
     requires { ⌜ RegionIn (now p) k a × RegionIn (now q) k b ⌝ }
-    ensures { λ r. ⌜ r ≡ insideOf (boxAt (now (p .entry)) k a) (boxAt (now (q .entry)) k b) ⌝ }
+    ensures { λ r. ⌜ r ≡ insideOf (regionAt k (now (p .entry)) a) (regionAt k (now (q .entry)) b) ⌝ }
 {
     let mut i: usize = 0;
     while i < k {
@@ -32,7 +32,7 @@ fn inside(p: &[u32], a: usize, k: usize, q: &[u32], b: usize) -> bool
 // The regions at words a and b, both not empty, share a key.
 fn share(p: &[u32], k: usize, a: usize, b: usize) -> bool
     requires { ⌜ RegionIn (now p) k a × RegionIn (now p) k b ⌝ }
-    ensures { λ r. ⌜ r ≡ overlap (boxAt (now (p .entry)) k a) (boxAt (now (p .entry)) k b) ⌝ }
+    ensures { λ r. ⌜ r ≡ overlap (regionAt k (now (p .entry)) a) (regionAt k (now (p .entry)) b) ⌝ }
 {
     let mut i: usize = 0;
     while i < k {
@@ -48,7 +48,7 @@ fn share(p: &[u32], k: usize, a: usize, b: usize) -> bool
 // None of the `left` regions from word `at` on shares a key with the region at word a.
 fn clear_of(p: &[u32], k: usize, a: usize, at: usize, left: usize) -> bool
     requires { ⌜ RegionIn (now p) k a × Row (now p) (2 * k + 1) at left ⌝ }
-    ensures { λ r. ⌜ r ≡ clearOf (boxAt (now (p .entry)) k a) (boxesAt left (now (p .entry)) k at) ⌝ }
+    ensures { λ r. ⌜ r ≡ clearOf (regionAt k (now (p .entry)) a) (regionsAt k left (now (p .entry)) at) ⌝ }
 {
     let mut b = at;
     let mut e: usize = 0;
@@ -65,7 +65,7 @@ fn clear_of(p: &[u32], k: usize, a: usize, at: usize, left: usize) -> bool
 // The `count` regions from word `at` on are not empty, lie in the region at word b of q, and share no key.
 fn fit(p: &[u32], k: usize, at: usize, count: usize, q: &[u32], b: usize) -> bool
     requires { ⌜ Row (now p) (2 * k + 1) at count × RegionIn (now q) k b ⌝ }
-    ensures { λ r. ⌜ r ≡ fitting (boxAt (now (q .entry)) k b) (boxesAt count (now (p .entry)) k at) ⌝ }
+    ensures { λ r. ⌜ r ≡ fitting (regionAt k (now (q .entry)) b) (regionsAt k count (now (p .entry)) at) ⌝ }
 {
     let mut a = at;
     let mut e: usize = 0;
@@ -120,8 +120,8 @@ fn less(v: Amount, w: Amount) -> Amount
 
 // The product of the first two sides of the region at word a, or of the only one: it fits in one word.
 fn plane(p: &[u32], k: usize, a: usize) -> usize
-    requires { ⌜ RegionIn (now p) k a × (T (solid (boxAt (now p) k a)) × (1 ≤ k)) ⌝ }
-    ensures { λ r. ⌜ Sides (now (p .entry)) k a (record { hi = 0; lo = r }) 2 ⌝ }
+    requires { ⌜ RegionIn (now p) k a × (T (solid (regionAt k (now p) a)) × (1 ≤ k)) ⌝ }
+    ensures { λ r. ⌜ Sides (regionAt k (now (p .entry)) a) (record { hi = 0; lo = r }) 2 ⌝ }
 {
     let x = lower_end(p, k, a, 0);
     let first = upper_end(p, k, a, 0) - x;
@@ -134,8 +134,8 @@ fn plane(p: &[u32], k: usize, a: usize) -> usize
 
 // How many keys the region at word a holds, which is not empty.
 fn volume(p: &[u32], k: usize, a: usize) -> Amount
-    requires { ⌜ RegionIn (now p) k a × (T (solid (boxAt (now p) k a)) × (1 ≤ k)) ⌝ }
-    ensures { λ r. ⌜ value r ≡ volumeOf (boxAt (now (p .entry)) k a) ⌝ }
+    requires { ⌜ RegionIn (now p) k a × (T (solid (regionAt k (now p) a)) × (1 ≤ k)) ⌝ }
+    ensures { λ r. ⌜ value r ≡ volumeOf (regionAt k (now (p .entry)) a) ⌝ }
 {
     let mut v = Amount {
         hi: 0,
@@ -152,8 +152,8 @@ fn volume(p: &[u32], k: usize, a: usize) -> Amount
 
 // The `count` regions from word `at` on, which fit in the region at word b of q, have together as many keys.
 fn filled(p: &[u32], k: usize, at: usize, count: usize, q: &[u32], b: usize) -> bool
-    requires { ⌜ Row (now p) (2 * k + 1) at count × (RegionIn (now q) k b × ((1 ≤ count) × ((1 ≤ k) × (fitting (boxAt (now q) k b) (boxesAt count (now p) k at) ≡ true)))) ⌝ }
-    ensures { λ r. ⌜ r ≡ tiles (boxAt (now (q .entry)) k b) (boxesAt count (now (p .entry)) k at) ⌝ }
+    requires { ⌜ Row (now p) (2 * k + 1) at count × (RegionIn (now q) k b × ((1 ≤ count) × ((1 ≤ k) × (fitting (regionAt k (now q) b) (regionsAt k count (now p) at) ≡ true)))) ⌝ }
+    ensures { λ r. ⌜ r ≡ tiles (regionAt k (now (q .entry)) b) (regionsAt k count (now (p .entry)) at) ⌝ }
 {
     let mut left = volume(q, k, b);
     let mut a = at;
@@ -169,7 +169,7 @@ fn filled(p: &[u32], k: usize, at: usize, count: usize, q: &[u32], b: usize) -> 
 // The `count` regions from word `at` on tile the region at word b of q.
 pub fn tiled(p: &[u32], k: usize, at: usize, count: usize, q: &[u32], b: usize) -> bool
     requires { ⌜ Row (now p) (2 * k + 1) at count × (RegionIn (now q) k b × ((1 ≤ count) × (1 ≤ k))) ⌝ }
-    ensures { λ r. ⌜ r ≡ tiles (regionIn k (now (q .entry)) b) (regionsIn k count (now (p .entry)) at) ⌝ }
+    ensures { λ r. ⌜ r ≡ tiles (regionAt k (now (q .entry)) b) (regionsAt k count (now (p .entry)) at) ⌝ }
 {
     if !fit(p, k, at, count, q, b) {
         return false;

@@ -1,5 +1,5 @@
 pub mod Laying
 pub mod Here
-pub mod OnePage
 pub mod Slots
 pub mod Bits
+pub mod OnePage

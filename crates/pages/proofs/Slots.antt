@@ -1,67 +1,26 @@
--- The loops over points are tests of lists.
-use mathlib.Core.Bool.{Bool, true, false, _&&_, not}
-use mathlib.Core.List.{List}
-use mathlib.Core.Path.{_≡_, refl, sym, ap, ap₂, _∙_}
-use Prim.Native.Nat.{ℕ, zero, suc, _+_, _-_, _<_, _≤_}
+-- Laws of one turn and of the end of the loops over the points of a page and over their keys.
+use mathlib.Core.Bool.{Bool, true, false, _&&_}
+use mathlib.Core.List.{List, [], _∷_}
+use mathlib.Core.Path.{_≡_, refl, sym, ap, _∙_}
+use Prim.Native.Nat.{ℕ, suc, _+_, _-_, _<_, _≤_}
 use native.Mathlib.Omega.{arith}
+use native.Mathlib.Nat.{zero-add}
+use native.Mathlib.Numerals.{add-one}
 use lib.Dec.{leb, eqb}
-use lib.ListN.{getD}
-use borrow.Author.Tests.{lt-ltb, le-ltb, le-leb, lt-leb}
-use Rattle.kdb.specs.Lists.{every, same}
-use Rattle.kdb.specs.Box.{Side, Key, within}
-use Rattle.kdb.proofs.Tests.{and-true, and-assoc, and-false}
-use Rattle.words.specs.Loops.{allBy, keysBy}
-use Rattle.cover.specs.Boxes.{sidesBy, sideAt, boxAt, Row}
-use Rattle.cover.proofs.Loops.{row-first, row-next}
-use Rattle.pages.specs.Tests.{keyIn, keysIn, keyInside, columnIn, alone, PointIn}
-
--- flag loops: the flag by itself, two tests in one loop, tests that agree
-all-flag : (n : ℕ) (f : ℕ → ℕ → Bool) (d a : ℕ) (ok : Bool) → allBy n f d a ok ≡ ok && allBy n f d a true
-unfolding allBy
-all-flag zero f d a ok = sym (and-true ok)
-all-flag (suc n) f d a ok =
-    all-flag n f d (a + d) (ok && f n a) ∙ (and-assoc ok (f n a) _ ∙ ap (λ t. ok && t) (sym (all-flag n f d (a + d) (f n a))))
-
-all-both : (n : ℕ) (f g : ℕ → ℕ → Bool) (d a : ℕ) → allBy n (λ m x. f m x && g m x) d a true ≡ allBy n f d a true && allBy n g d a true
-unfolding allBy
-all-both zero f g d a = refl
-all-both (suc n) f g d a =
-    all-flag n (λ m x. f m x && g m x) d (a + d) (f n a && g n a)
-    ∙ (ap (λ t. (f n a && g n a) && t) (all-both n f g d (a + d))
-    ∙ (swap (f n a) (g n a) (allBy n f d (a + d) true) (allBy n g d (a + d) true)
-    ∙ sym (ap₂ _&&_ (all-flag n f d (a + d) (f n a)) (all-flag n g d (a + d) (g n a)))))
-  where
-    swap : (a b c d : Bool) → (a && b) && (c && d) ≡ (a && c) && (b && d)
-    swap true true c d = refl
-    swap true false true d = refl
-    swap true false false d = refl
-    swap false b c d = refl
-
-all-same : (n : ℕ) (f g : ℕ → ℕ → Bool) (d a : ℕ) (ok : Bool) → ((m x : ℕ) → f m x ≡ g m x) → allBy n f d a ok ≡ allBy n g d a ok
-unfolding allBy
-all-same zero f g d a ok e = refl
-all-same (suc n) f g d a ok e = all-same n f g d (a + d) (ok && f n a) e ∙ ap (λ t. allBy n g d (a + d) (ok && t)) (e n a)
-
-all-true : (n d a : ℕ) → allBy n (λ m x. true) d a true ≡ true
-unfolding allBy
-all-true zero d a = refl
-all-true (suc n) d a = all-true n d (a + d)
-
-within-loop : (m : ℕ) (s : ℕ → Side) (f : ℕ → ℕ) (i : ℕ) (ok : Bool) → allBy m (λ n d. keyInside (s d) (f d)) 1 i ok ≡ ok && within (sidesBy m s i) (keysBy m f i)
-unfolding allBy
-within-loop zero s f i ok = sym (and-true ok)
-within-loop (suc m) s f i ok = within-loop m s f (i + 1) (ok && keyInside (s i) (f i)) ∙ and-assoc ok _ _
-
--- domain by domain over all points is point by point over all domains
-pub columns-are : (c : ℕ) (w : List ℕ) (k : ℕ) (v : List ℕ) (b a : ℕ)
-    → allBy k (λ n d. columnIn w k c d (sideAt v k b d) a) 1 0 true ≡ every (within (boxAt v k b)) (keysIn c w k a)
-unfolding allBy
-columns-are zero w k v b a = all-true k 1 0
-columns-are (suc c) w k v b a =
-    all-same k (λ n d. columnIn w k (suc c) d (sideAt v k b d) a) (λ n d. keyInside (sideAt v k b d) (getD w (a + d) 0) && columnIn w k c d (sideAt v k b d) (a + (k + 1))) 1 0 true
-    (λ n d. all-flag c (λ m x. keyInside (sideAt v k b d) (getD w (x + d) 0)) (k + 1) (a + (k + 1)) (keyInside (sideAt v k b d) (getD w (a + d) 0)))
-    ∙ (all-both k (λ n d. keyInside (sideAt v k b d) (getD w (a + d) 0)) (λ n d. columnIn w k c d (sideAt v k b d) (a + (k + 1))) 1 0
-    ∙ ap₂ _&&_ (within-loop k (sideAt v k b) (λ d. getD w (a + d) 0) 0 true) (columns-are c w k v b (a + (k + 1))))
+use lib.ListN.{length, drop, getD, length-take, length-drop, drop-of-length-le}
+use lib.Seq.{drop-cons, getD-take, getD-drop, length-take-le}
+use borrow.Author.Tests.{eq-eqb, ne-eqb, lt-ltb, le-ltb, le-leb, lt-leb}
+use Rattle.kdb.specs.Lists.{every, Each, same, tally}
+use Rattle.kdb.specs.Box.{Side, Box, Key, within}
+use Rattle.kdb.specs.Tree.{Rec}
+use Rattle.kdb.specs.Pages.{readRecs}
+use Rattle.kdb.proofs.Tests.{and-assoc, and-swap, and-false}
+use Rattle.kdb.proofs.Pages.{recs-keys}
+use Rattle.kdb.proofs.Words.{rec-turn}
+use Rattle.words.specs.Words.{regionAt, RegionIn}
+use Rattle.cover.specs.Boxes.{Row}
+use Rattle.cover.proofs.Loops.{row-first, row-next, sideAt, side-turn, side-end}
+use Rattle.pages.specs.Tests.{recKey, keyInside, columnIn, unlike, PointIn}
 
 -- a number below, past and in a side
 module _ (s : Side) (x : ℕ) where
@@ -74,15 +33,113 @@ module _ (s : Side) (x : ℕ) where
   pub key-in : s .lo ≤ x → x < s .hi → keyInside s x ≡ true
   key-in h g = rw (le-leb (s .lo) x h, lt-ltb x (s .hi) g)
 
-pub same-loop : (m : ℕ) (f g : ℕ → ℕ) (i : ℕ) (ok : Bool) → allBy m (λ n d. eqb (f d) (g d)) 1 i ok ≡ ok && same (keysBy m f i) (keysBy m g i)
-unfolding allBy
-same-loop zero f g i ok = sym (and-true ok)
-same-loop (suc m) f g i ok = same-loop m f g (i + 1) (ok && eqb (f i) (g i)) ∙ and-assoc ok _ _
+-- the key in domain d of the point at word a, and those after it
+pub key-here : (w : List ℕ) (k a d : ℕ) → d < k → getD (recKey k w a) d 0 ≡ getD w (a + d) 0
+key-here w k a d h = getD-take k (drop a w) d 0 h ∙ getD-drop a w d 0
 
-pub alone-loop : (m : ℕ) (x : Key) (w : List ℕ) (k a : ℕ) (ok : Bool) → allBy m (λ n b. not (same x (keyIn w k b))) (k + 1) a ok ≡ ok && alone x (keysIn m w k a)
-unfolding allBy
-alone-loop zero x w k a ok = sym (and-true ok)
-alone-loop (suc m) x w k a ok = alone-loop m x w k (a + (k + 1)) (ok && not (same x (keyIn w k a))) ∙ and-assoc ok _ _
+key-turn : (w : List ℕ) (k a d : ℕ) → PointIn w k a → d < k → drop d (recKey k w a) ≡ getD w (a + d) 0 ∷ drop (d + 1) (recKey k w a)
+key-turn w k a d g h =
+    let m : length (recKey k w a) ≡ k = length-take-le k (drop a w) (omega (arith, length-drop a w, g .ends)) in
+    rw (add-one d) (rw (key-here w k a d h) at (drop-cons (recKey k w a) d 0 (omega arith)))
+
+key-end : (w : List ℕ) (k a d : ℕ) → k ≤ d → drop d (recKey k w a) ≡ []
+key-end w k a d h = drop-of-length-le (recKey k w a) {i = d} (omega (arith, length-take k (drop a w)))
+
+-- two keys: the test of them from domain d on is v
+pub record Twin (w : List ℕ) (k a b d : ℕ) (v : Bool) : Type 0 where
+  pub one : PointIn w k a
+  pub other : PointIn w k b
+  pub rest : same (drop d (recKey k w a)) (drop d (recKey k w b)) ≡ v
+
+module _ (w : List ℕ) (k a b d : ℕ) (v : Bool) (m : Twin w k a b d v) where
+  pub twin-end : k ≤ d → true ≡ v
+  twin-end h = rw (key-end w k a d h, key-end w k b d h) at (m .rest)
+
+  module _ (l : d < k) where
+    turn : eqb (getD w (a + d) 0) (getD w (b + d) 0) && same (drop (d + 1) (recKey k w a)) (drop (d + 1) (recKey k w b)) ≡ v
+    turn = rw (key-turn w k a d (m .one) l, key-turn w k b d (m .other) l) at (m .rest)
+
+    pub twin-stop : (getD w (a + d) 0 ≡ getD w (b + d) 0 → ⊥) → false ≡ v
+    twin-stop t = rw (ne-eqb _ _ t) at turn
+
+    pub twin-next : getD w (a + d) 0 ≡ getD w (b + d) 0 → Twin w k a b (d + 1) v
+    twin-next t = record { one = m .one; other = m .other; rest = rw (eq-eqb _ _ t) at turn }
+
+-- n points from word a on: the test of their keys in domain d, and of their keys against x, is v
+pub record Column (w : List ℕ) (k a n d : ℕ) (s : Side) (v : Bool) : Type 0 where
+  pub row : Row w (k + 1) a n
+  pub rest : columnIn d s (readRecs k n (drop a w)) ≡ v
+
+pub record Unlike (w : List ℕ) (k a n : ℕ) (x : Key) (v : Bool) : Type 0 where
+  pub row : Row w (k + 1) a n
+  pub rest : unlike x (readRecs k n (drop a w)) ≡ v
+
+recs-end : (k c e : ℕ) (w : List ℕ) (a : ℕ) → c ≤ e → readRecs k (c - e) (drop a w) ≡ []
+recs-end k c e w a l = let q : c - e ≡ 0 = omega arith in rw q
+
+module _ (w : List ℕ) (k a c e d : ℕ) (s : Side) (v : Bool) (m : Column w k a (c - e) d s v) where
+  pub column-end : c ≤ e → true ≡ v
+  column-end l = rw (recs-end k c e w a l) at (m .rest)
+
+  module _ (l : e < c) (h : d < k) where
+    first : keyInside s (getD w (a + d) 0) && columnIn d s (readRecs k (c - (e + 1)) (drop (a + (k + 1)) w)) ≡ v
+    first = rw (rec-turn k c e w a l, key-here w k a d h) at (m .rest)
+
+    pub column-stop : keyInside s (getD w (a + d) 0) ≡ false → false ≡ v
+    column-stop t = rw t at first
+
+    pub column-next : keyInside s (getD w (a + d) 0) ≡ true → Column w k (a + (k + 1)) (c - (e + 1)) d s v
+    column-next t = record { row = row-next w (k + 1) a c e (m .row) l; rest = rw t at first }
+
+module _ (w : List ℕ) (k a c e : ℕ) (x : Key) (v : Bool) (m : Unlike w k a (c - e) x v) where
+  pub unlike-end : c ≤ e → true ≡ v
+  unlike-end l = rw (recs-end k c e w a l) at (m .rest)
+
+  module _ (l : e < c) where
+    pub unlike-stop : same x (recKey k w a) ≡ true → false ≡ v
+    unlike-stop t = sym (ne-eqb (1 + tally (λ q. same x (q .key)) (readRecs k (c - (e + 1)) (drop (a + (k + 1)) w))) 0 (λ z. omega arith)) ∙ (rw t at (rw (rec-turn k c e w a l) at (m .rest)))
+
+    pub unlike-next : same x (recKey k w a) ≡ false → Unlike w k (a + (k + 1)) (c - (e + 1)) x v
+    unlike-next t = record { row = row-next w (k + 1) a c e (m .row) l; rest = rw zero-add at (rw t at (rw (rec-turn k c e w a l) at (m .rest))) }
+
+-- points in a region, domain by domain: those in the side of domain d, and in the sides after it
+module _ (k d : ℕ) where
+  columns : (s : Side) (r : Box) (rs : List Rec) → Each (λ q. length (q .key) ≡ k) rs → d < k
+      → every (λ q. within (s ∷ r) (drop d (q .key))) rs ≡ columnIn d s rs && every (λ q. within r (drop (d + 1) (q .key))) rs
+  columns s r [] h l = refl
+  columns s r (q ∷ rs) h l =
+      let x = keyInside s (getD (q .key) d 0) in
+      let y = within r (drop (suc d) (q .key)) in
+      let u = columnIn d s rs in
+      rw (add-one d, drop-cons (q .key) d 0 (omega (arith, h .0)))
+      (ap (λ t. (x && y) && t) (rw (add-one d) at (columns s r rs (h .1) l)) ∙ (and-assoc x y _ ∙ (ap (λ t. x && t) (and-swap y u _) ∙ sym (and-assoc x u _))))
+
+  columns-end : (rs : List Rec) → Each (λ q. length (q .key) ≡ k) rs → k ≤ d → every (λ q. within [] (drop d (q .key))) rs ≡ true
+  columns-end [] h l = refl
+  columns-end (q ∷ rs) h l = rw (drop-of-length-le (q .key) {i = d} (omega (arith, h .0))) (columns-end rs (h .1) l)
+
+-- the test of n points from word a on, from domain d on, is v
+pub record Lying (k : ℕ) (p : List ℕ) (a n : ℕ) (q : List ℕ) (b d : ℕ) (v : Bool) : Type 0 where
+  pub row : Row p (k + 1) a n
+  pub region : RegionIn q k b
+  pub rest : every (λ x. within (drop d (regionAt k q b)) (drop d (x .key))) (readRecs k n (drop a p)) ≡ v
+
+module _ (k : ℕ) (p : List ℕ) (a n : ℕ) (q : List ℕ) (b d : ℕ) (v : Bool) (m : Lying k p a n q b d v) where
+  long : Each (λ x. length (x .key) ≡ k) (readRecs k n (drop a p))
+  long = recs-keys k n (drop a p) (omega (arith, length-drop a p, m .row .ends))
+
+  pub lying-end : k ≤ d → true ≡ v
+  lying-end h = sym (columns-end k d (readRecs k n (drop a p)) long h) ∙ (rw (side-end q k b d h) at (m .rest))
+
+  module _ (l : d < k) where
+    column : columnIn d (sideAt q k b d) (readRecs k n (drop a p)) && every (λ x. within (drop (d + 1) (regionAt k q b)) (drop (d + 1) (x .key))) (readRecs k n (drop a p)) ≡ v
+    column = sym (columns k d (sideAt q k b d) (drop (d + 1) (regionAt k q b)) (readRecs k n (drop a p)) long l) ∙ (rw (side-turn q k b d (m .region) l) at (m .rest))
+
+    pub lying-stop : columnIn d (sideAt q k b d) (readRecs k n (drop a p)) ≡ false → false ≡ v
+    lying-stop t = rw t at column
+
+    pub lying-next : columnIn d (sideAt q k b d) (readRecs k n (drop a p)) ≡ true → Lying k p a n q b (d + 1) v
+    lying-next t = record { row = m .row; region = m .region; rest = rw t at column }
 
 pub point-first : (w : List ℕ) (k a c e : ℕ) → Row w (k + 1) a (c - e) → e < c → PointIn w k a
 point-first w k a c e h l = let r = row-first w (k + 1) a c e h l in record { near = omega (arith, h .near); few = omega (arith, h .wide); ends = omega arith }

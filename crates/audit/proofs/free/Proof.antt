@@ -5,10 +5,6 @@ use Rattle.audit.proofs.Turns.{free-met, free-not}
 use borrow.Author.Needs.{needs}
 use Rattle.audit.proofs.free.Statement.{statement}
 use Rattle.audit.proofs.free.Tie as tie
-use Rattle.audit.proofs.free.Reads as reads
-use Rattle.audit.proofs.free.Lts as lts
-use Rattle.words.proofs.get.Reads as get-reads
-use Rattle.words.proofs.zeros.Reads as zeros-reads
 
 get-requires : tie.Need-get-requires
 get-requires c κs = search needs

@@ -2,9 +2,6 @@
 use borrow.Author.Needs.{needs}
 use Rattle.audit.proofs.fresh.Statement.{statement}
 use Rattle.audit.proofs.fresh.Tie as tie
-use Rattle.audit.proofs.fresh.Reads as reads
-use Rattle.audit.proofs.fresh.Lts as lts
-use Rattle.words.proofs.get.Reads as get-reads
 
 get-requires : tie.Need-get-requires
 get-requires c κs = search needs

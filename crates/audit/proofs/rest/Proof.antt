@@ -1,4 +1,4 @@
--- `audit::rest` meets its contract: every page from 1 to n - 1 that was not met is all zero.
+-- `audit::rest` meets its contract: every page behind the header that was not met is all zero.
 use Prim.Native.Nat.{_≤_, _-_}
 use mathlib.Core.Path.{_≡_}
 use mathlib.Core.Bool.{true}
@@ -6,26 +6,23 @@ use Rattle.words.specs.Loops.{allBy}
 use Rattle.words.proofs.Loops.{all-end, all-next}
 use Rattle.kdb.specs.Calls.{L}
 use Rattle.words.proofs.Laws.{pages}
-use Rattle.audit.specs.Walk.{freeOf, restOf}
+use Rattle.audit.specs.Walk.{clearedOf, restOf}
 use Rattle.audit.proofs.Turns.{number-loop}
 use borrow.Author.Needs.{needs}
 use native.Mathlib.Omega.{arith}
 use Rattle.audit.proofs.rest.Statement.{statement}
 use Rattle.audit.proofs.rest.Tie as tie
-use Rattle.audit.proofs.rest.Reads as reads
-use Rattle.audit.proofs.rest.Lts as lts
-use Rattle.audit.proofs.free.Reads as free-reads
 
 abbrev Inv-loop : tie.InvT-loop
-Inv-loop p n met ok₀ j₀ ok j = (1 ≤ j) × (allBy (n - j) (λ x i. freeOf L p met i) 1 j ok ≡ restOf L p met)
+Inv-loop p f met n ok₀ j₀ ok j = (1 ≤ j) × (allBy (n - j) (λ x i. clearedOf L p met i) 1 j ok ≡ restOf L p met)
 
 abbrev μ-loop : tie.MeasureT-loop
-μ-loop p n met ok₀ j₀ ok j = n - j
+μ-loop p f met n ok₀ j₀ ok j = n - j
 
 loop-holds : tie.Need-loop-holds Inv-loop μ-loop
 unfolding restOf
 loop-holds c = let x = c .before .before .args in
-    (omega arith, rw (pages _ _ (c .before .before .pre)) (number-loop (x .n - 1) (freeOf L (x .p .now) (x .met .now)) 1 true))
+    (omega arith, rw (pages _ _ (c .before .before .pre)) (number-loop (x .f .pages - 1) (clearedOf L (x .p .now) (x .met .now)) 1 true))
 
 free-requires : tie.Need-free-requires Inv-loop μ-loop
 free-requires c κs = search needs

@@ -5,10 +5,6 @@ use borrow.Author.Needs.{needs}
 use native.Mathlib.Omega.{arith}
 use Rattle.audit.proofs.walk.Statement.{statement}
 use Rattle.audit.proofs.walk.Tie as tie
-use Rattle.audit.proofs.walk.Reads as reads
-use Rattle.audit.proofs.walk.Lts as lts
-use Rattle.audit.proofs.page.Reads as page-reads
-use Rattle.words.proofs.get.Reads as get-reads
 
 get-requires : tie.Need-get-requires
 get-requires c κs = search needs
@@ -29,16 +25,16 @@ sub-page : tie.Need-sub-page
 sub-page c = search needs
 
 page-requires : tie.Need-page-requires
-page-requires c κs = let p = c .before .before .before .before .before .before .before .before .pre in
-    record { pool = p .0; domains = p .1 .0; least = p .1 .1 .0; most = p .1 .1 .1; region = omega (arith, p .1 .1); near = omega arith }
+page-requires c κs = let p = c .before .before .before .before .before .before .before .before .before .pre in
+    (p, record { few = p .formed .few; near = omega arith; ends = omega (arith, p .formed) })
 
 same-length : tie.Need-same-length
 same-length c = search needs
 
 returns-2 : tie.Need-returns-2
-returns-2 c = let p = c .before .before .before .before .before .before .before .before .before .before .before .pre in
-    (rw (whole-words _ (p .1 .1 .0) (p .1 .1 .1), p .1 .0, c .before .before .before .before .before .get3 .ensures .0, c .before .before .before .before .before .before .before .get2 .ensures .0, c .before .before .before .before .before .before .before .before .get .ensures .0) at (c .before .before .page .ensures))
-    ∙ walk-page _ _ (λ z. c .before .before .before .before .before .before .if1 .left (c .before .before .before .before .before .before .before .get2 .ensures .0 ∙ z))
+returns-2 c = let p = c .before .before .before .before .before .before .before .before .before .before .before .before .pre in
+    (rw (whole-words _ (p .formed .some) (p .formed .few), ← p .says, c .before .before .before .before .before .before .get3 .ensures .0, c .before .before .before .before .before .before .before .before .get2 .ensures .0, c .before .before .before .before .before .before .before .before .before .get .ensures .0) at (c .before .before .page .ensures))
+    ∙ walk-page _ _ (λ z. c .before .before .before .before .before .before .before .if1 .left (c .before .before .before .before .before .before .before .before .get2 .ensures .0 ∙ z))
 
 pub walk-spec : {M : Type 1} → statement M
 walk-spec =

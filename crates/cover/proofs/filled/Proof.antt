@@ -1,6 +1,7 @@
 -- `cover::filled` meets its contract: the keys of r that are left after each region; none are left exactly if the regions tile.
 use Prim.Native.Nat.{_-_}
-use Rattle.cover.specs.Boxes.{boxAt, boxesAt}
+use Rattle.words.specs.Words.{regionAt}
+use Rattle.cover.specs.Boxes.{regionsAt}
 use Rattle.cover.specs.Volume.{volumeOf, volumesOf, value}
 use Rattle.cover.proofs.Loops.{region-first}
 use Rattle.cover.proofs.Regions.{Left, region-some, left-all, left-some, left-most, left-next, left-end, filled-is}
@@ -8,13 +9,9 @@ use borrow.Author.Needs.{needs}
 use native.Mathlib.Omega.{arith}
 use Rattle.cover.proofs.filled.Statement.{statement}
 use Rattle.cover.proofs.filled.Tie as tie
-use Rattle.cover.proofs.filled.Reads as reads
-use Rattle.cover.proofs.filled.Lts as lts
-use Rattle.cover.proofs.less.Reads as less-reads
-use Rattle.cover.proofs.volume.Reads as volume-reads
 
 abbrev Inv-loop : tie.InvT-loop
-Inv-loop p k at count q b left₀ a₀ e₀ left a e = Left p k a (count - e) (volumesOf (boxesAt count p k at)) (volumeOf (boxAt q k b)) (value left)
+Inv-loop p k at count q b left₀ a₀ e₀ left a e = Left p k a (count - e) (volumesOf (regionsAt k count p at)) (volumeOf (regionAt k q b)) (value left)
 
 abbrev μ-loop : tie.MeasureT-loop
 μ-loop p k at count q b left₀ a₀ e₀ left a e = count - e
@@ -22,12 +19,12 @@ abbrev μ-loop : tie.MeasureT-loop
 volume-requires : tie.Need-volume-requires Inv-loop μ-loop
 volume-requires c κs = let x = c .before .before .args in
     let h = c .before .before .pre in
-    (h .1 .0, (region-some (x .p .now) (x .k) (x .at) (x .count) (x .q .now) (x .b) (h .0) (h .1 .0) (h .1 .1 .0) (h .1 .1 .1 .1), h .1 .1 .1 .0))
+    (h .1 .0, (region-some (x .p .now) (x .k) (x .at) (x .count) (regionAt (x .k) (x .q .now) (x .b)) (h .1 .1 .0) (h .1 .1 .1 .1), h .1 .1 .1 .0))
 
 loop-holds : tie.Need-loop-holds Inv-loop μ-loop
 loop-holds c = let x = c .before .before .before .args in
     let h = c .before .before .before .pre in
-    left-all (x .p .now) (x .k) (x .at) (x .count) _ (x .b) (x .q .now) (h .0) (h .1 .1 .1 .1) (c .volume .ensures)
+    left-all _ _ _ _ _ (regionAt (x .k) (x .q .now) (x .b)) (h .0) (h .1 .1 .1 .1) (c .volume .ensures)
 
 volume-requires-2 : tie.Need-volume-requires-2 Inv-loop μ-loop
 volume-requires-2 c κs = (region-first _ _ _ _ _ (c .before .loop .inv .regions) (omega arith), (left-some _ _ _ _ _ _ _ _ (c .before .loop .inv) (omega arith), c .before .before .before .before .before .pre .1 .1 .1 .0))
@@ -57,7 +54,7 @@ loop-again c = left-next _ _ _ _ _ _ _ _ (c .before .before .before .loop .inv) 
 
 returns : tie.Need-returns Inv-loop μ-loop
 returns c = let x = c .before .before .before .before .before .before .before .args in
-    filled-is (x .p .now) (x .k) (x .at) (x .count) (x .b) (x .q .now) _ (c .before .before .before .before .before .before .before .pre .1 .1 .1 .1) (left-end _ _ _ _ _ _ _ _ (c .before .before .before .loop .inv) (omega arith))
+    filled-is (regionAt (x .k) (x .q .now) (x .b)) (regionsAt (x .k) (x .count) (x .p .now) (x .at)) _ (c .before .before .before .before .before .before .before .pre .1 .1 .1 .1) (left-end _ _ _ _ _ _ _ _ (c .before .before .before .loop .inv) (omega arith))
 
 pub filled-spec : {M : Type 1} → statement M
 filled-spec =

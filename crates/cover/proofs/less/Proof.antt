@@ -1,12 +1,10 @@
 -- `cover::less` meets its contract: word by word, with a carry where the lower words want one.
 use mathlib.Core.Path.{refl}
-use Rattle.cover.proofs.Loops.{carry-high, carry-value, plain-high, plain-value}
+use Rattle.cover.proofs.Amounts.{carry-high, carry-value, plain-high, plain-value}
 use borrow.Author.Needs.{needs}
 use native.Mathlib.Omega.{arith}
 use Rattle.cover.proofs.less.Statement.{statement}
 use Rattle.cover.proofs.less.Tie as tie
-use Rattle.cover.proofs.less.Reads as reads
-use Rattle.cover.proofs.less.Lts as lts
 
 sub-t4 : tie.Need-sub-t4
 sub-t4 c = let x = c .before .before .before .before .before .args in

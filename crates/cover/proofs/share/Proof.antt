@@ -1,32 +1,23 @@
 -- `cover::share` meets its contract: side by side, and out at the first that has no common key.
-use mathlib.Core.Bool.{true}
 use Prim.Native.Nat.{_-_}
-use mathlib.Core.Path.{_≡_}
-use native.Mathlib.Nat.{sub-zero}
+use mathlib.Core.Path.{refl}
 use borrow.Author.Tests.{not-true, not-false}
-use Rattle.words.specs.Loops.{allBy}
-use Rattle.words.proofs.Loops.{all-end}
-use Rattle.cover.specs.Boxes.{overlapSide, overlap, sideAt, boxAt}
-use Rattle.cover.proofs.Loops.{all-on, all-stop}
-use Rattle.cover.proofs.Tests.{side-loop}
+use Rattle.words.specs.Words.{regionAt}
+use Rattle.cover.specs.Boxes.{overlapSide, overlap}
+use Rattle.cover.proofs.Loops.{Beside, beside-end, beside-stop, beside-next}
 use borrow.Author.Needs.{needs}
 use native.Mathlib.Omega.{arith}
 use Rattle.cover.proofs.share.Statement.{statement}
 use Rattle.cover.proofs.share.Tie as tie
-use Rattle.cover.proofs.share.Reads as reads
-use Rattle.cover.proofs.share.Lts as lts
-use Rattle.words.proofs.upper_end.Reads as upper-end-reads
-use Rattle.words.proofs.lower_end.Reads as lower-end-reads
 
 abbrev Inv-loop : tie.InvT-loop
-Inv-loop p k a b i₀ i = allBy (k - i) (λ n d. overlapSide (sideAt p k a d) (sideAt p k b d)) 1 i true ≡ overlap (boxAt p k a) (boxAt p k b)
+Inv-loop p k a b i₀ i = Beside overlapSide k p a p b i (overlap (regionAt k p a) (regionAt k p b))
 
 abbrev μ-loop : tie.MeasureT-loop
 μ-loop p k a b i₀ i = k - i
 
 loop-holds : tie.Need-loop-holds Inv-loop μ-loop
-loop-holds c = let x = c .before .args in
-    simp sub-zero (side-loop overlapSide (x .k) (sideAt (x .p .now) (x .k) (x .a)) (sideAt (x .p .now) (x .k) (x .b)) 0 true)
+loop-holds c = record { one = c .before .pre .0; other = c .before .pre .1; rest = refl }
 
 lower-end-requires : tie.Need-lower-end-requires Inv-loop μ-loop
 lower-end-requires c κs = search needs
@@ -41,7 +32,7 @@ upper-end-requires-2 : tie.Need-upper-end-requires-2 Inv-loop μ-loop
 upper-end-requires-2 c κs = search needs
 
 returns : tie.Need-returns Inv-loop μ-loop
-returns c = all-stop _ _ _ _ _ _ (c .before .before .before .before .before .before .loop .inv) (omega arith)
+returns c = beside-stop _ _ _ _ _ _ _ _ (c .before .before .before .before .before .before .loop .inv) (omega arith)
     (not-true _ (rw (c .before .upper-end2 .ensures .0, c .before .before .lower-end2 .ensures .0, c .before .before .before .upper-end .ensures .0, c .before .before .before .before .lower-end .ensures .0) at (c .if1 .taken)))
 
 add-i : tie.Need-add-i Inv-loop μ-loop
@@ -51,11 +42,11 @@ loop-less : tie.Need-loop-less Inv-loop μ-loop
 loop-less c = search needs
 
 loop-again : tie.Need-loop-again Inv-loop μ-loop
-loop-again c = all-on _ _ _ _ _ _ (c .before .before .before .before .before .before .loop .inv) (omega arith)
+loop-again c = beside-next _ _ _ _ _ _ _ _ (c .before .before .before .before .before .before .loop .inv) (omega arith)
     (not-false _ (rw (c .before .upper-end2 .ensures .0, c .before .before .lower-end2 .ensures .0, c .before .before .before .upper-end .ensures .0, c .before .before .before .before .lower-end .ensures .0) at (c .if1 .left)))
 
 returns-2 : tie.Need-returns-2 Inv-loop μ-loop
-returns-2 c = all-end _ _ _ _ _ _ _ (c .before .loop .inv) (omega arith)
+returns-2 c = beside-end _ _ _ _ _ _ _ _ (c .before .loop .inv) (omega arith)
 
 pub share-spec : {M : Type 1} → statement M
 share-spec =

@@ -1,13 +1,11 @@
 -- `cover::times` meets its contract: by halves of the lower word, which with a factor below 2 ^ 32 fit in 64 bits.
 use mathlib.Core.Path.{refl}
 use Prim.Native.Nat.{_/_, _%_}
-use Rattle.cover.proofs.Loops.{factors, times-value}
+use Rattle.cover.proofs.Amounts.{factors, times-value}
 use borrow.Author.Needs.{needs}
 use native.Mathlib.Omega.{arith}
 use Rattle.cover.proofs.times.Statement.{statement}
 use Rattle.cover.proofs.times.Tie as tie
-use Rattle.cover.proofs.times.Reads as reads
-use Rattle.cover.proofs.times.Lts as lts
 
 mul-low : tie.Need-mul-low
 mul-low c = let x = c .before .args in

@@ -4,9 +4,6 @@ use borrow.Author.Needs.{needs}
 use native.Mathlib.Omega.{arith}
 use Rattle.pages.proofs.alone_if.Statement.{statement}
 use Rattle.pages.proofs.alone_if.Tie as tie
-use Rattle.pages.proofs.alone_if.Reads as reads
-use Rattle.pages.proofs.alone_if.Lts as lts
-use Rattle.pages.proofs.differs.Reads as differs-reads
 
 add-differs : tie.Need-add-differs
 add-differs c = search needs

@@ -7,10 +7,6 @@ use borrow.Author.Needs.{needs}
 use native.Mathlib.Omega.{arith}
 use Rattle.pages.proofs.distinct.Statement.{statement}
 use Rattle.pages.proofs.distinct.Tie as tie
-use Rattle.pages.proofs.distinct.Reads as reads
-use Rattle.pages.proofs.distinct.Lts as lts
-use Rattle.pages.proofs.alone_if.Reads as alone-if-reads
-use Rattle.words.proofs.read.Reads as read-reads
 
 abbrev Inv-loop : tie.InvT-loop
 Inv-loop p k at count marks₀ a₀ e₀ marks a e = Done p k at count marks a e

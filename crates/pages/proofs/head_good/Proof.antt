@@ -2,9 +2,6 @@
 use borrow.Author.Needs.{needs}
 use Rattle.pages.proofs.head_good.Statement.{statement}
 use Rattle.pages.proofs.head_good.Tie as tie
-use Rattle.pages.proofs.head_good.Reads as reads
-use Rattle.pages.proofs.head_good.Lts as lts
-use Rattle.words.proofs.read.Reads as read-reads
 
 mul-read : tie.Need-mul-read
 mul-read c = search needs
@@ -43,7 +40,7 @@ read-requires-4 : tie.Need-read-requires-4
 read-requires-4 c κs = search needs
 
 returns : tie.Need-returns
-returns c = rw (c .read4 .ensures .0, c .before .read3 .ensures .0, c .before .before .read2 .ensures .0, c .before .before .before .read .ensures .0)
+returns c = rw (c .read4 .ensures .0, c .before .before .read3 .ensures .0, c .before .before .before .read2 .ensures .0, c .before .before .before .before .read .ensures .0)
 
 pub head-good-spec : {M : Type 1} → statement M
 head-good-spec =

@@ -1,47 +1,37 @@
 -- `pages::point_page` meets its contract: head, tail, points in the region and different, each read within the pool.
 use mathlib.Core.Path.{sym, _∙_}
 use borrow.Author.Tests.{not-true, not-false}
-use Rattle.cover.proofs.Tests.{box-is}
 use Rattle.pages.proofs.OnePage.{points-head, points-tail, points-out, points-last, point-room}
 use borrow.Author.Needs.{needs}
 use native.Mathlib.Omega.{arith}
 use Rattle.pages.proofs.point_page.Statement.{statement}
 use Rattle.pages.proofs.point_page.Tie as tie
-use Rattle.pages.proofs.point_page.Reads as reads
-use Rattle.pages.proofs.point_page.Lts as lts
-use Rattle.pages.proofs.all_hold.Reads as all-hold-reads
-use Rattle.pages.proofs.distinct.Reads as distinct-reads
-use Rattle.pages.proofs.head_good.Reads as head-good-reads
-use Rattle.words.proofs.points_per.Reads as points-per-reads
-use Rattle.words.proofs.read.Reads as read-reads
-use Rattle.words.proofs.zeros.Reads as zeros-reads
 
 mul-read : tie.Need-mul-read
-mul-read c = let h = c .before .before .pre .0 .pool in
-    let i = c .before .before .pre .1 in
+mul-read c = let h = c .before .before .pre .0 .formed in
+    let i = c .before .before .pre .1 .0 in
     omega arith
 
 add-read : tie.Need-add-read
-add-read c = let h = c .before .before .pre .0 .pool in
-    let i = c .before .before .pre .1 in
+add-read c = let h = c .before .before .pre .0 .formed in
+    let i = c .before .before .pre .1 .0 in
     omega arith
 
 read-requires : tie.Need-read-requires
-read-requires c κs = let h = c .before .before .pre .0 .pool in
-    let i = c .before .before .pre .1 in
+read-requires c κs = let h = c .before .before .pre .0 .formed in
+    let i = c .before .before .pre .1 .0 in
     omega arith
 
 points-per-requires : tie.Need-points-per-requires
 points-per-requires c κs = search needs
 
 head-good-requires : tie.Need-head-good-requires
-head-good-requires c κs = let h = c .before .before .before .before .pre .0 .pool in
-    let i = c .before .before .before .before .pre .1 in
-    (omega arith, omega arith)
+head-good-requires c κs = let p = c .before .before .before .before .pre in
+    (p .0 .formed, p .1 .0)
 
 returns : tie.Need-returns
 returns c = let p = c .before .before .before .before .before .before .pre in
-    points-head _ _ _ _ _ _ (p .0) (p .1) _ (not-true _ (rw (c .before .head-good .ensures, c .before .before .points-per .ensures) at (c .if1 .taken)))
+    points-head _ _ _ (p .0) (p .1 .0) _ (not-true _ (rw (c .before .head-good .ensures, c .before .before .points-per .ensures) at (c .if1 .taken)))
 
 mul-zeros : tie.Need-mul-zeros
 mul-zeros c = search needs
@@ -55,13 +45,13 @@ add-zeros-2 c = search needs
 mul-zeros-2 : tie.Need-mul-zeros-2
 mul-zeros-2 c = let x = c .before .before .before .before .before .before .args in
     let z = c .before .before .before .read in
-    let m = point-room (x .p .now) (x .k) (x .j) (z .result) (z .ensures .0) (not-false _ (rw (c .before .head-good .ensures, c .before .before .points-per .ensures) at (c .if1 .left))) in
+    let m = point-room (x .p .now) (x .f .domains) (x .j) (z .result) (z .ensures .0) (not-false _ (rw (c .before .head-good .ensures, c .before .before .points-per .ensures) at (c .if1 .left))) in
     omega arith
 
 add-zeros-3 : tie.Need-add-zeros-3
 add-zeros-3 c = let x = c .before .before .before .before .before .before .args in
     let z = c .before .before .before .read in
-    let m = point-room (x .p .now) (x .k) (x .j) (z .result) (z .ensures .0) (not-false _ (rw (c .before .head-good .ensures, c .before .before .points-per .ensures) at (c .if1 .left))) in
+    let m = point-room (x .p .now) (x .f .domains) (x .j) (z .result) (z .ensures .0) (not-false _ (rw (c .before .head-good .ensures, c .before .before .points-per .ensures) at (c .if1 .left))) in
     omega arith
 
 mul-zeros-3 : tie.Need-mul-zeros-3
@@ -75,56 +65,56 @@ zeros-requires c κs = search needs
 
 returns-2 : tie.Need-returns-2
 returns-2 c = let p = c .before .before .before .before .before .before .before .before .pre in
-    points-tail _ _ _ _ _ _ (p .0) (p .1) _ (not-false _ (rw (c .before .before .before .head-good .ensures, c .before .before .before .before .points-per .ensures) at (c .before .before .if1 .left))) (sym (rw (c .before .before .before .before .before .read .ensures .0) at (c .before .zeros .ensures)) ∙ not-true _ (c .if2 .taken))
+    points-tail _ _ _ (p .0) (p .1 .0) _ (not-false _ (rw (c .before .before .before .head-good .ensures, c .before .before .before .before .points-per .ensures) at (c .before .before .if1 .left))) (sym (rw (c .before .before .before .before .before .read .ensures .0) at (c .before .zeros .ensures)) ∙ not-true _ (c .if2 .taken))
 
 mul-all-hold : tie.Need-mul-all-hold
-mul-all-hold c = let h = c .before .before .before .before .before .before .before .before .pre .0 .pool in
-    let i = c .before .before .before .before .before .before .before .before .pre .1 in
+mul-all-hold c = let h = c .before .before .before .before .before .before .before .before .pre .0 .formed in
+    let i = c .before .before .before .before .before .before .before .before .pre .1 .0 in
     omega arith
 
 add-all-hold : tie.Need-add-all-hold
-add-all-hold c = let h = c .before .before .before .before .before .before .before .before .pre .0 .pool in
-    let i = c .before .before .before .before .before .before .before .before .pre .1 in
+add-all-hold c = let h = c .before .before .before .before .before .before .before .before .pre .0 .formed in
+    let i = c .before .before .before .before .before .before .before .before .pre .1 .0 in
     omega arith
 
 all-hold-requires : tie.Need-all-hold-requires
 all-hold-requires c κs = let x = c .before .before .before .before .before .before .before .before .args in
     let z = c .before .before .before .before .before .read in
-    let m = point-room (x .p .now) (x .k) (x .j) (z .result) (z .ensures .0) (not-false _ (rw (c .before .before .before .head-good .ensures, c .before .before .before .before .points-per .ensures) at (c .before .before .if1 .left))) in
-    let h = c .before .before .before .before .before .before .before .before .pre .0 in
-    let g = h .pool in
-    let i = c .before .before .before .before .before .before .before .before .pre .1 in
-    (record { wide = omega arith; near = omega arith; ends = omega arith }, record { few = h .most; near = omega (arith, h .near); ends = h .region })
+    let m = point-room (x .p .now) (x .f .domains) (x .j) (z .result) (z .ensures .0) (not-false _ (rw (c .before .before .before .head-good .ensures, c .before .before .before .before .points-per .ensures) at (c .before .before .if1 .left))) in
+    let h = c .before .before .before .before .before .before .before .before .pre in
+    let g = h .0 .formed in
+    let i = h .1 .0 in
+    (record { wide = omega arith; near = omega arith; ends = omega arith }, h .1 .1)
 
 returns-3 : tie.Need-returns-3
 returns-3 c = let p = c .before .before .before .before .before .before .before .before .before .before .pre in
-    points-out _ _ _ _ _ _ (p .0) (p .1) _ (not-false _ (rw (c .before .before .before .before .before .head-good .ensures, c .before .before .before .before .before .before .points-per .ensures) at (c .before .before .before .before .if1 .left))) (sym (rw (c .before .before .before .before .before .before .before .read .ensures .0) at (c .before .before .before .zeros .ensures)) ∙ not-false _ (c .before .before .if2 .left))
-    (sym (rw (box-is _ _ _ (p .0 .region), c .before .before .before .before .before .before .before .read .ensures .0) at (c .before .all-hold .ensures)) ∙ not-true _ (c .if3 .taken))
+    points-out _ _ _ (p .0) (p .1 .0) _ (not-false _ (rw (c .before .before .before .before .before .head-good .ensures, c .before .before .before .before .before .before .points-per .ensures) at (c .before .before .before .before .if1 .left))) (sym (rw (c .before .before .before .before .before .before .before .read .ensures .0) at (c .before .before .before .zeros .ensures)) ∙ not-false _ (c .before .before .if2 .left))
+    (sym (rw (c .before .before .before .before .before .before .before .read .ensures .0) at (c .before .all-hold .ensures)) ∙ not-true _ (c .if3 .taken))
 
 mul-distinct : tie.Need-mul-distinct
-mul-distinct c = let h = c .before .before .before .before .before .before .before .before .before .before .pre .0 .pool in
-    let i = c .before .before .before .before .before .before .before .before .before .before .pre .1 in
+mul-distinct c = let h = c .before .before .before .before .before .before .before .before .before .before .pre .0 .formed in
+    let i = c .before .before .before .before .before .before .before .before .before .before .pre .1 .0 in
     omega arith
 
 add-distinct : tie.Need-add-distinct
-add-distinct c = let h = c .before .before .before .before .before .before .before .before .before .before .pre .0 .pool in
-    let i = c .before .before .before .before .before .before .before .before .before .before .pre .1 in
+add-distinct c = let h = c .before .before .before .before .before .before .before .before .before .before .pre .0 .formed in
+    let i = c .before .before .before .before .before .before .before .before .before .before .pre .1 .0 in
     omega arith
 
 distinct-requires : tie.Need-distinct-requires
 distinct-requires c κs = let x = c .before .before .before .before .before .before .before .before .before .before .args in
     let z = c .before .before .before .before .before .before .before .read in
-    let m = point-room (x .p .now) (x .k) (x .j) (z .result) (z .ensures .0) (not-false _ (rw (c .before .before .before .before .before .head-good .ensures, c .before .before .before .before .before .before .points-per .ensures) at (c .before .before .before .before .if1 .left))) in
-    let h = c .before .before .before .before .before .before .before .before .before .before .pre .0 in
-    let g = h .pool in
-    let i = c .before .before .before .before .before .before .before .before .before .before .pre .1 in
-    (record { wide = omega arith; near = omega arith; ends = omega arith }, h .least)
+    let m = point-room (x .p .now) (x .f .domains) (x .j) (z .result) (z .ensures .0) (not-false _ (rw (c .before .before .before .before .before .head-good .ensures, c .before .before .before .before .before .before .points-per .ensures) at (c .before .before .before .before .if1 .left))) in
+    let h = c .before .before .before .before .before .before .before .before .before .before .pre in
+    let g = h .0 .formed in
+    let i = h .1 .0 in
+    (record { wide = omega arith; near = omega arith; ends = omega arith }, g .some)
 
 returns-4 : tie.Need-returns-4
 returns-4 c = let p = c .before .before .before .before .before .before .before .before .before .before .before .pre in
     (rw (c .before .before .before .before .before .before .before .before .read .ensures .0) at (c .distinct .ensures))
-    ∙ points-last _ _ _ _ _ _ (p .0) (p .1) _ (not-false _ (rw (c .before .before .before .before .before .before .head-good .ensures, c .before .before .before .before .before .before .before .points-per .ensures) at (c .before .before .before .before .before .if1 .left))) (sym (rw (c .before .before .before .before .before .before .before .before .read .ensures .0) at (c .before .before .before .before .zeros .ensures)) ∙ not-false _ (c .before .before .before .if2 .left))
-    (sym (rw (box-is _ _ _ (p .0 .region), c .before .before .before .before .before .before .before .before .read .ensures .0) at (c .before .before .all-hold .ensures)) ∙ not-false _ (c .before .if3 .left))
+    ∙ points-last _ _ _ (p .0) (p .1 .0) _ (not-false _ (rw (c .before .before .before .before .before .before .head-good .ensures, c .before .before .before .before .before .before .before .points-per .ensures) at (c .before .before .before .before .before .if1 .left))) (sym (rw (c .before .before .before .before .before .before .before .before .read .ensures .0) at (c .before .before .before .before .zeros .ensures)) ∙ not-false _ (c .before .before .before .if2 .left))
+    (sym (rw (c .before .before .before .before .before .before .before .before .read .ensures .0) at (c .before .before .all-hold .ensures)) ∙ not-false _ (c .before .if3 .left))
 
 pub point-page-spec : {M : Type 1} → statement M
 point-page-spec =

@@ -6,38 +6,30 @@ use borrow.Author.Needs.{needs}
 use native.Mathlib.Omega.{arith}
 use Rattle.pages.proofs.region_page.Statement.{statement}
 use Rattle.pages.proofs.region_page.Tie as tie
-use Rattle.pages.proofs.region_page.Reads as reads
-use Rattle.pages.proofs.region_page.Lts as lts
-use Rattle.pages.proofs.head_good.Reads as head-good-reads
-use Rattle.cover.proofs.tiled.Reads as tiled-reads
-use Rattle.words.proofs.regions_per.Reads as regions-per-reads
-use Rattle.words.proofs.read.Reads as read-reads
-use Rattle.words.proofs.zeros.Reads as zeros-reads
 
 mul-read : tie.Need-mul-read
-mul-read c = let h = c .before .before .pre .0 .pool in
+mul-read c = let h = c .before .before .pre .0 .formed in
     omega arith
 
 add-read : tie.Need-add-read
-add-read c = let h = c .before .before .pre .0 .pool in
+add-read c = let h = c .before .before .pre .0 .formed in
     omega arith
 
 read-requires : tie.Need-read-requires
-read-requires c κs = let h = c .before .before .pre .0 .pool in
-    let i = c .before .before .pre .1 in
+read-requires c κs = let h = c .before .before .pre .0 .formed in
+    let i = c .before .before .pre .1 .0 in
     omega arith
 
 regions-per-requires : tie.Need-regions-per-requires
 regions-per-requires c κs = search needs
 
 head-good-requires : tie.Need-head-good-requires
-head-good-requires c κs = let h = c .before .before .before .before .pre .0 .pool in
-    let i = c .before .before .before .before .pre .1 in
-    (omega arith, omega arith)
+head-good-requires c κs = let p = c .before .before .before .before .pre in
+    (p .0 .formed, p .1 .0)
 
 returns : tie.Need-returns
 returns c = let p = c .before .before .before .before .before .before .pre in
-    regions-head _ _ _ _ _ _ (p .0) (p .1) _ (not-true _ (rw (c .before .head-good .ensures, c .before .before .regions-per .ensures, c .before .before .before .read .ensures .0) at (c .if1 .taken)))
+    regions-head _ _ _ (p .0) (p .1 .0) _ (not-true _ (rw (c .before .head-good .ensures, c .before .before .regions-per .ensures, c .before .before .before .read .ensures .0) at (c .if1 .taken)))
 
 mul-zeros : tie.Need-mul-zeros
 mul-zeros c = search needs
@@ -54,13 +46,13 @@ add-zeros-2 c = search needs
 mul-zeros-3 : tie.Need-mul-zeros-3
 mul-zeros-3 c = let x = c .before .before .before .before .before .before .args in
     let z = c .before .before .before .read in
-    let m = region-room (x .p .now) (x .k) (x .j) (z .result) (z .ensures .0) (not-false _ (rw (c .before .head-good .ensures, c .before .before .regions-per .ensures) at (c .if1 .left))) in
+    let m = region-room (x .p .now) (x .f .domains) (x .j) (z .result) (z .ensures .0) (not-false _ (rw (c .before .head-good .ensures, c .before .before .regions-per .ensures) at (c .if1 .left))) in
     omega arith
 
 add-zeros-3 : tie.Need-add-zeros-3
 add-zeros-3 c = let x = c .before .before .before .before .before .before .args in
     let z = c .before .before .before .read in
-    let m = region-room (x .p .now) (x .k) (x .j) (z .result) (z .ensures .0) (not-false _ (rw (c .before .head-good .ensures, c .before .before .regions-per .ensures) at (c .if1 .left))) in
+    let m = region-room (x .p .now) (x .f .domains) (x .j) (z .result) (z .ensures .0) (not-false _ (rw (c .before .head-good .ensures, c .before .before .regions-per .ensures) at (c .if1 .left))) in
     omega arith
 
 mul-zeros-4 : tie.Need-mul-zeros-4
@@ -76,7 +68,7 @@ returns-2 : tie.Need-returns-2
 returns-2 c = let p = c .before .before .before .before .before .before .before .before .pre in
     let z = c .before .before .before .before .before .read .ensures .0 in
     let e = rw (c .before .before .before .head-good .ensures, c .before .before .before .before .regions-per .ensures, z) at (c .before .before .if1 .left) in
-    regions-tail _ _ _ _ _ _ (p .0) (p .1) _ (not-false _ e) (sym (rw z at (c .before .zeros .ensures)) ∙ not-true _ (c .if2 .taken))
+    regions-tail _ _ _ (p .0) (p .1 .0) _ (not-false _ e) (sym (rw z at (c .before .zeros .ensures)) ∙ not-true _ (c .if2 .taken))
 
 mul-tiled : tie.Need-mul-tiled
 mul-tiled c = search needs
@@ -88,17 +80,16 @@ tiled-requires : tie.Need-tiled-requires
 tiled-requires c κs = let p = c .before .before .before .before .before .before .before .before in
     let x = p .args in
     let z = c .before .before .before .before .before .read in
-    let m = region-room (x .p .now) (x .k) (x .j) (z .result) (z .ensures .0) (not-false _ (rw (c .before .before .before .head-good .ensures, c .before .before .before .before .regions-per .ensures) at (c .before .before .if1 .left))) in
-    let h = p .pre .0 in
-    let g = h .pool in
-    let i = p .pre .1 in
-    (record { wide = omega arith; near = omega arith; ends = omega arith }, (record { few = h .most; near = omega (arith, h .near); ends = h .region }, (m .some, h .least)))
+    let m = region-room (x .p .now) (x .f .domains) (x .j) (z .result) (z .ensures .0) (not-false _ (rw (c .before .before .before .head-good .ensures, c .before .before .before .before .regions-per .ensures) at (c .before .before .if1 .left))) in
+    let g = p .pre .0 .formed in
+    let i = p .pre .1 .0 in
+    (record { wide = omega arith; near = omega arith; ends = omega arith }, (p .pre .1 .1, (m .0, g .some)))
 
 returns-3 : tie.Need-returns-3
 returns-3 c = let p = c .before .before .before .before .before .before .before .before .before .pre in
     let z = c .before .before .before .before .before .before .read .ensures .0 in
     let e = rw (c .before .before .before .before .head-good .ensures, c .before .before .before .before .before .regions-per .ensures, z) at (c .before .before .before .if1 .left) in
-    (rw z at (c .tiled .ensures)) ∙ regions-last _ _ _ _ _ _ (p .0) (p .1) _ (not-false _ e) (sym (rw z at (c .before .before .zeros .ensures)) ∙ not-false _ (c .before .if2 .left))
+    (rw z at (c .tiled .ensures)) ∙ regions-last _ _ _ (p .0) (p .1 .0) _ (not-false _ e) (sym (rw z at (c .before .before .zeros .ensures)) ∙ not-false _ (c .before .if2 .left))
 
 pub region-page-spec : {M : Type 1} → statement M
 region-page-spec =
