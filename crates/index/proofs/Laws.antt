@@ -11,7 +11,7 @@ use lib.Seq.{sets}
 use borrow.Author.Tests.{eqb-true, le-leb, lt-leb, ltb-true, ltb-false}
 use Rattle.kdb.specs.Lists.{sum, upFrom}
 use Rattle.kdb.specs.Pages.{recsIn, page, readPage, blank}
-use Rattle.kdb.specs.Pool.{domains, countAt, pagesIn, goodLength, view, Sound}
+use Rattle.kdb.specs.Pool.{domains, rootAt, levelsAt, countAt, pagesIn, goodLength, view, Sound}
 use Rattle.kdb.specs.Walk.{Spot, End, rootless, bad, absent, here, findWalk}
 use Rattle.kdb.specs.Print.{sound}
 use Rattle.kdb.specs.declared.Refusal.{Refusal}
@@ -32,7 +32,7 @@ use Rattle.split.specs.Part.{passed}
 use Rattle.steps.specs.Place.{placeIn}
 use Rattle.steps.specs.Remove.{removeIn}
 use Rattle.steps.proofs.Promise.{place-core, remove-core}
-use Rattle.place.specs.Steps.{Room}
+use Rattle.place.specs.Steps.{Topping}
 use Rattle.opening.specs.declared.Finished.{Finished}
 use Rattle.opening.specs.declared.Finished.the-variants.{Refused}
 use Rattle.opening.specs.Opens.{Opens}
@@ -59,7 +59,7 @@ pub formats : (w : List ℕ) (n k : ℕ) → goodLength L w ≡ true → n ≡ p
 formats w n k h e =
     let g = long w h in
     let two : length w ≡ suc (suc (length w - 2)) = omega (arith, g .long, g .least) in
-    rw (sub-zero (length w), cleared w) (go (length w) (length w - 2) two) ∙ (rw e (sym (formatted-words w k (of-true (goodLength L w) h))))
+    rw (sub-zero (length w), cleared w, formatted-words w k (of-true (goodLength L w) h), ← e) (go (length w) (length w - 2) two)
   where
     go : (l m : ℕ) → l ≡ suc (suc m) → set (set (replicate l 0) 0 k) 1 n ≡ k ∷ n ∷ replicate m 0
     go l m e = rw e
@@ -163,11 +163,11 @@ module _ (w p : List ℕ) (f : Form) (e : f ≡ formOf w) (h : Fit w (formOf w) 
   begun : T (begins w (remove p))
   begun = subst (λ g. T (allHold (opening w (eqb (length p) (g .domains)) p))) e (h .1)
 
-  pub remove-near : (j i loc : ℕ) → Found (findWalk L w p .end) j i loc → (domains w ≤ 4) × ((j < 4294967296) × (i < 4294967296))
+  pub remove-near : (j i loc : ℕ) → Found (findWalk L w p .end) j i loc → Fit w f × ((j < 4294967296) × (i < 4294967296))
   remove-near j i loc o =
       let m : Ends (λ x. Named L w x × (x .rec .key ≡ p)) (here (o .spot)) = subst (Ends (λ x. Named L w x × (x .rec .key ≡ p))) (o .is) (find-named L w p) in
       let q = spot-near w (well w (eqb (length p) (f .domains)) p (h .1)) (o .spot) (m .0) in
-      (h .0 .few, (omega (arith, q .0, o .page), omega (arith, q .1, o .slot)))
+      (subst (Fit w) (sym e) (h .0), (omega (arith, q .0, o .page), omega (arith, q .1, o .slot)))
 
   pub remove-done : (j i loc : ℕ) → Found (findWalk L w p .end) j i loc → gives (loc ∷ []) (alone (removeIn L j i w)) ≡ outcome w (remove p)
   remove-done j i loc o = (rw (← (o .page), ← (o .slot), ← (o .loc)) (sym (remove-core w p (o .spot) begun (o .is)))) ∙ sym (goes-on w (remove p) begun)
@@ -183,7 +183,7 @@ pub place-refused : (w work p : List ℕ) (l : ℕ) (f : Form) → f ≡ formOf 
     → Promise w (place work p l) (refuses r (working work w))
 place-refused w work p l f e q o r z =
     refused-kept w _ q o (place work p l) ((not (present (findWalk L w p .end)) or why.Present) ∷ []) r z
-    (ap (λ m. opening w (placeFits w work p m) p ++ ((not (present (findWalk L w p .end)) or why.Present) ∷ [])) (sym e))
+    (ap (λ g. opening w (placeFits w work p g) p ++ ((not (present (findWalk L w p .end)) or why.Present) ∷ [])) (sym e))
 
 -- place on a pool that was opened
 module _ (w work p : List ℕ) (l : ℕ) (f : Form) (e : f ≡ formOf w) (h : Fit w (formOf w) × T (allHold (opening w (placeFits w work p f) p))) where
@@ -193,7 +193,7 @@ module _ (w work p : List ℕ) (l : ℕ) (f : Form) (e : f ≡ formOf w) (h : Fi
       (subst (Fit w) (sym e) (h .0), (eqb-true (length p) (f .domains) (b .0), eqb-true (length work) (length w) (b .1)))
 
   held : T (allHold (opening w (placeFits w work p (formOf w)) p))
-  held = subst (λ m. T (allHold (opening w (placeFits w work p m) p))) e (h .1)
+  held = subst (λ g. T (allHold (opening w (placeFits w work p g) p))) e (h .1)
 
   pub place-present : present (findWalk L w p .end) ≡ true → Promise w (place work p l) (refuses why.Present (working work w))
   unfolding outcome
@@ -206,23 +206,12 @@ module _ (w work p : List ℕ) (l : ℕ) (f : Form) (e : f ≡ formOf w) (h : Fi
     places : T (begins w (place work p l))
     places = hold-more (not (present (findWalk L w p .end))) why.Present (opening w (placeFits w work p (formOf w)) p) (of-true (not (present (findWalk L w p .end))) (ap not q)) held
 
-    pub place-room : l < 4294967296 → Room n w p l × (length work ≡ length w)
+    pub place-room : l < 4294967296 → Fit w f × (Topping (rootAt w) (levelsAt w) (countAt w) × ((length p ≡ f .domains) × ((l < 4294967296) × (length work ≡ length w))))
     place-room b =
-        let g = h .0 .paged in
-        let s = well w (placeFits w work p k) p (h .1) in
-        let t = header-iff L w .0 (s .header) in (
-          record {
-            words = g .words;
-            least = omega (arith, g .least);
-            most = g .most;
-            some = h .0 .least;
-            few = h .0 .few;
-            topping = record { root = omega (arith, t .root, pages w n g, g .most); levels = omega (arith, t .levels, pages w n g, g .most); count = count-few w n g s };
-            keys = place-fit .1 .0 ∙ e;
-            location = b;
-          },
-          place-fit .1 .1,
-        )
+        let s = well w (placeFits w work p f) p (h .1) in
+        let t = header-iff L w .0 (s .header) in
+        let top : Topping (rootAt w) (levelsAt w) (countAt w) = record { root = omega (arith, t .root, few w s); levels = omega (arith, t .levels, few w s); count = count-few w s } in
+        (place-fit .0, (top, (place-fit .1 .0, (b, place-fit .1 .1))))
 
     module _ (ok : Bool) (v : List ℕ) (g : passed ok v ≡ placeIn L p l w) where
       pub place-done : ok ≡ true → gives [] (working w v) ≡ outcome w (place work p l)

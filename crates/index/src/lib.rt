@@ -87,7 +87,7 @@ pub fn remove(pool: &mut [u32], point: &[u32]) -> Removed
     }
     match search(pool, f, point) {
         Sought::Here(page, slot, location, _) => {
-            remove_in(pool, page, slot);
+            remove_in(pool, f, page, slot);
             Removed::At(location)
         }
         Sought::Absent(_, _) => Removed::Refused(Refusal::Absent),
