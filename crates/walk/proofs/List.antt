@@ -9,7 +9,7 @@ use native.Mathlib.Nat.{add-zero, zero-add}
 use lib.Dec.{leb, ltb}
 use lib.ListN.{length, take, drop, getD, set, length-append, length-take, length-map}
 use lib.Seq.{sets, drop-cons, set-getD, take-suc-set, take-set-le}
-use borrow.Author.Tests.{lt-ltb, le-ltb, ltb-true, ltb-false, ne-eqb}
+use borrow.Author.Tests.{lt-ltb, le-ltb, ltb-true, ltb-false, ne-eqb, not-true}
 use Rattle.kdb.specs.Lists.{only, bit}
 use Rattle.kdb.specs.Box.{Box, inWindow, meets}
 use Rattle.kdb.specs.declared.Form.{Form}
@@ -25,7 +25,7 @@ use Rattle.words.proofs.Laws.{pages}
 use Rattle.words.proofs.Slots.{records-turn, records-end}
 use Rattle.walk.specs.declared.Tally.{Tally}
 use Rattle.walk.specs.Pages.{regionWords, pointWords, EntriesIn, RecordsIn}
-use Rattle.walk.specs.List.{St, stopped, going, seen, Kept, arrived, locations, noted, held, foundIn, childrenMet, each, movedBy, walked}
+use Rattle.walk.specs.List.{St, stopped, going, seen, Kept, mayRead, arrived, locations, noted, held, foundIn, childrenMet, each, movedBy, walked}
 use Rattle.walk.proofs.Pages.{is-page, regions-good, points-good, region-page, point-page}
 
 locations-append : (a b : List Spot) → locations (a ++ b) ≡ locations a ++ locations b
@@ -114,27 +114,23 @@ goes-on n j good s t e h = go (s .bad) (leb 1 j && ltb j n) refl (ltb (s .reads 
     go false true p true true q z = record { is = p; takes = q; reads = ap (λ u. u .reads) z; total = ap (λ u. u .total) z }
     go false true p true false q z = clash (ap (λ u. u .bad) z) h
 
--- page j, counted before it is looked at: the walk has stopped, whatever the page is; or stops at it, if it is bad; or enters it
-module _ (n j : ℕ) (good : Bool) (s u : Tally) (e : u ≡ arrived n j true s) where
-  abbrev may : Bool
-  may = not (s .bad) && (leb 1 j && ltb j n) && ltb (s .reads + 1) n
+-- a walk that has not stopped, at page j: it may not read it, whatever the page is; or counts it, and stops at it if it is bad
+module _ (n j : ℕ) (s : Tally) (go : s .bad ≡ false) where
+  abbrev on : Bool → Tally
+  on bad = record { reads = s .reads + 1; total = s .total; bad = bad }
 
-  pub stops-before : u .bad ≡ true → u ≡ arrived n j good s
-  stops-before h = go may e
-    where
-      go : (b : Bool) → u ≡ counts s b true → u ≡ counts s b good
-      go true z = clash h (ap (λ t. t .bad) z)
-      go false z = z
+  pub halts : mayRead n j s ≡ false → (good : Bool) → record { reads = s .reads; total = s .total; bad = true } ≡ arrived n j good s
+  halts h good = rw (go, h)
 
-  pub stops-at : good ≡ false → u .bad ≡ false → record { reads = u .reads; total = u .total; bad = true } ≡ arrived n j good s
-  stops-at g h = rw g (go may e)
-    where
-      go : (b : Bool) → u ≡ counts s b true → record { reads = u .reads; total = u .total; bad = true } ≡ counts s b false
-      go true z = ap (λ t. record { reads = t .reads; total = t .total; bad = true }) z
-      go false z = clash (ap (λ t. t .bad) z) h
+  module _ (h : mayRead n j s ≡ true) where
+    pub stops-at : (good : Bool) → good ≡ false → on true ≡ arrived n j good s
+    stops-at good g = rw (g, go, h)
 
-  pub enters : good ≡ true → u ≡ arrived n j good s
-  enters g = rw g e
+    pub enters : (good : Bool) → good ≡ true → on false ≡ arrived n j good s
+    enters good g = rw (g, go, h)
+
+    pub kept-on : Kept n s → (bad : Bool) → Kept n (on bad)
+    kept-on g bad = record { few = ltb-true (s .reads + 1) n (and-t (leb 1 j && ltb j n) (ltb (s .reads + 1) n) h .1); small = omega (arith, g .small) }
 
 -- a slot written as it was, or anew
 pub counted : (b : Bool) (t : ℕ) → t + bit b ≡ cond b (t + 1) t
@@ -270,6 +266,9 @@ module _ (k c e : ℕ) (w : List ℕ) (v : Box) (a m : ℕ) (ch x : List ℕ) wh
 pub not-all : (i m : ℕ) (b : Bool) → ltb i m && b ≡ true → i < m
 not-all i m b t = ltb-true i m (and-t (ltb i m) b t .0)
 
+pub not-bad : (i m : ℕ) (bad : Bool) → ltb i m && not bad ≡ true → bad ≡ false
+not-bad i m bad t = not-true bad (and-t (ltb i m) (not bad) t .1)
+
 -- the first m of these pages, from the one after i others on
 module _ (n m i : ℕ) (below : ℕ → Tour) (ch : List ℕ) (u : Tally) (out : List ℕ) (x : St) where
   -- all passed, or stopped: then the others change nothing
@@ -307,6 +306,3 @@ module _ (w : List ℕ) (f : Form) (g : Fit w f) (v : Box) (out : List ℕ) wher
   walk-some z =
       rw (ne-eqb (levelsAt w) 0 z) (bound (f .pages) (tour L w v (levelsAt w - 1) (rootAt w)) out (omega (arith, g .formed .least))
       ∙ ap (λ (N : ℕ). walked out (bounded N (tour L w v (levelsAt w - 1) (rootAt w)))) (sym (pages w f (g .formed))))
-
-pub more-room : (n : ℕ) (b : Bool) (s : Tally) → b && ltb (s .reads + 1) n ≡ true → s .reads + 1 < n
-more-room n b s t = ltb-true (s .reads + 1) n (and-t b (ltb (s .reads + 1) n) t .1)

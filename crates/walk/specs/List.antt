@@ -25,7 +25,11 @@ pub record Kept (n : ℕ) (s : Tally) : Type 0 where
   pub few : s .reads < n
   pub small : s .total ≤ 28 * s .reads
 
--- page j reached, of n pages
+-- page j, of n pages, may be read
+abbrev pub mayRead : ℕ → ℕ → Tally → Bool
+mayRead n j s = leb 1 j && ltb j n && ltb (s .reads + 1) n
+
+-- page j reached
 abbrev pub arrived : ℕ → ℕ → Bool → Tally → Tally
 arrived n j good s =
     cond (not (s .bad) && (leb 1 j && ltb j n) && ltb (s .reads + 1) n)

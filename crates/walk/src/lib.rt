@@ -24,7 +24,7 @@ ghost use Rattle.kdb.specs.Calls.{L, windowOf};
 ghost use Rattle.words.specs.Words.{wordAt, keysOf, pointLocation, recordsFrom, RecordIn, Fit};
 ghost use Rattle.walk.specs.Pages.{regionWords, pointWords, EntriesIn, RecordsIn};
 ghost use Rattle.walk.specs.Seek.{childOf, ended, soughtAs};
-ghost use Rattle.walk.specs.List.{Kept, arrived, foundIn, childrenMet, each, seen, movedBy, walked};
+ghost use Rattle.walk.specs.List.{Kept, mayRead, foundIn, childrenMet, each, seen, movedBy, walked};
 
 // How a search ended: at the record (page, slot, location, pages read), in the point page that lacks the point (page, pages read), at
 // a bad page (pages read), or before it began, for want of a root.
@@ -147,33 +147,19 @@ pub fn search(pool: &[u32], f: Form, point: &[u32]) -> Sought
     requires { ⌜ Fit (now pool) f × (length (now point) ≡ f .domains) ⌝ }
     ensures { λ r. ⌜ r ≡ soughtAs 0 (findWalk L (now (pool .entry)) (now (point .entry))) ⌝ }
 {
-    let levels = get(pool, 3);
+    let levels = read(pool, 3);
     if levels == 0 {
         return Sought::NoRoot;
     }
-    descend(pool, f, point, get(pool, 2), levels)
+    descend(pool, f, point, read(pool, 2), levels)
 }
 
-// Before page j is looked at: it counts as read, if it is a page and the bound allows one more; else the walk stops.
-fn arrive(f: Form, j: usize, s: Tally) -> Tally
+// Whether a walk that has not stopped may read page j: it is a page, and the bound allows one more.
+fn may_read(f: Form, j: usize, s: Tally) -> bool
     requires { ⌜ (f .pages ≤ 512) × Kept (f .pages) s ⌝ }
-    ensures { λ r. ⌜ (r ≡ arrived (f .pages) j true s) × Kept (f .pages) r ⌝ }
+    ensures { λ r. ⌜ r ≡ mayRead (f .pages) j s ⌝ }
 {
-    let reads = s.reads;
-    let total = s.total;
-    if !s.bad & is_page(f, j) & (reads + 1 < f.pages) {
-        Tally {
-            reads: reads + 1,
-            total,
-            bad: false,
-        }
-    } else {
-        Tally {
-            reads,
-            total,
-            bad: true,
-        }
-    }
+    is_page(f, j) & (s.reads + 1 < f.pages)
 }
 
 // 1 where it holds, else 0.
@@ -237,15 +223,18 @@ fn list_points(
 
 // A page of the last level.
 fn list_leaf(pool: &[u32], f: Form, window: &[u32], answer: &mut [u32], j: usize, s: Tally) -> Tally
-    requires { ⌜ Fit (now pool) f × ((length (now window) ≡ 2 * f .domains) × ((j < 2 ^ 32) × Kept (f .pages) s)) ⌝ }
+    requires { ⌜ Fit (now pool) f × ((length (now window) ≡ 2 * f .domains) × ((j < 2 ^ 32) × (Kept (f .pages) s × (s .bad ≡ false)))) ⌝ }
     ensures { λ r. ⌜ (seen r (now (answer .exit)) ≡ movedBy (f .pages) (seen s (now (answer .entry))) (tour L (now (pool .entry)) (windowOf (f .domains) (now (window .entry))) 0 j)) × Kept (f .pages) r ⌝ }
 {
-    let t = arrive(f, j, s);
-    if t.bad {
-        return t;
+    let total = s.total;
+    if !may_read(f, j, s) {
+        return Tally {
+            reads: s.reads,
+            total,
+            bad: true,
+        };
     }
-    let reads = t.reads;
-    let total = t.total;
+    let reads = s.reads + 1;
     if !point_page(pool, f, j) {
         return Tally {
             reads,
@@ -312,13 +301,21 @@ fn list_page(
     j: usize,
     s: Tally,
 ) -> Tally
-    requires { ⌜ Fit (now pool) f × ((length (now window) ≡ 2 * f .domains) × ((1 < level) × ((j < 2 ^ 32) × Kept (f .pages) s))) ⌝ }
+    requires { ⌜ Fit (now pool) f × ((length (now window) ≡ 2 * f .domains) × ((1 < level) × ((j < 2 ^ 32) × (Kept (f .pages) s × (s .bad ≡ false))))) ⌝ }
     ensures { λ r. ⌜ (seen r (now (answer .exit)) ≡ movedBy (f .pages) (seen s (now (answer .entry))) (tour L (now (pool .entry)) (windowOf (f .domains) (now (window .entry))) (level - 1) j)) × Kept (f .pages) r ⌝ }
 {
-    let mut t = arrive(f, j, s);
-    if t.bad {
-        return t;
+    if !may_read(f, j, s) {
+        return Tally {
+            reads: s.reads,
+            total: s.total,
+            bad: true,
+        };
     }
+    let mut t = Tally {
+        reads: s.reads + 1,
+        total: s.total,
+        bad: false,
+    };
     if !region_page(pool, f, j) {
         return Tally {
             reads: t.reads,
@@ -344,7 +341,7 @@ pub fn list_walk(pool: &[u32], f: Form, window: &[u32], answer: &mut [u32]) -> T
     requires { ⌜ Fit (now pool) f × (length (now window) ≡ 2 * f .domains) ⌝ }
     ensures { λ r. ⌜ seen r (now (answer .exit)) ≡ walked (now (answer .entry)) (listWalk L (now (pool .entry)) (windowOf (f .domains) (now (window .entry)))) ⌝ }
 {
-    let levels = get(pool, 3);
+    let levels = read(pool, 3);
     let s = Tally {
         reads: 0,
         total: 0,
@@ -353,7 +350,7 @@ pub fn list_walk(pool: &[u32], f: Form, window: &[u32], answer: &mut [u32]) -> T
     if levels == 0 {
         return s;
     }
-    let root = get(pool, 2);
+    let root = read(pool, 2);
     if levels <= 1 {
         return list_leaf(pool, f, window, answer, root, s);
     }

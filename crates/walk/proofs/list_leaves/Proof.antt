@@ -1,5 +1,5 @@
 -- `walk::list_leaves` meets its contract: the state after the pages passed, then those left, is the state after all.
-use Rattle.walk.proofs.List.{not-all, each-end, each-next}
+use Rattle.walk.proofs.List.{not-all, not-bad, each-end, each-next}
 use Rattle.walk.specs.List.{Kept, seen, each, movedBy}
 use Rattle.kdb.specs.Calls.{L, windowOf}
 use Rattle.kdb.specs.Walk.{tour}
@@ -27,7 +27,9 @@ read-requires : tie.Need-read-requires Inv-loop μ-loop
 read-requires c κs = let l = c .before .before .before .loop in omega (arith, not-all (l .i) (c .before .before .before .before .before .before .before .before .args .m) (not (l .t .bad)) (c .before .if1 .taken), c .before .before .before .before .before .before .before .before .pre .1 .1 .0)
 
 list-leaf-requires : tie.Need-list-leaf-requires Inv-loop μ-loop
-list-leaf-requires c κs = let p = c .before .before .before .before .before .before .before .before .before .pre in (p .0, (p .1 .0, (c .read .ensures .1, c .before .before .before .before .loop .inv .1)))
+list-leaf-requires c κs = let p = c .before .before .before .before .before .before .before .before .before .pre in
+    let l = c .before .before .before .before .loop in
+    (p .0, (p .1 .0, (c .read .ensures .1, (l .inv .1, not-bad (l .i) (c .before .before .before .before .before .before .before .before .before .args .m) (l .t .bad) (c .before .before .if1 .taken)))))
 
 add-i : tie.Need-add-i Inv-loop μ-loop
 add-i c = let l = c .before .before .before .before .before .before .before .loop in omega (arith, not-all (l .i) (c .before .before .before .before .before .before .before .before .before .before .before .before .args .m) (not (l .t .bad)) (c .before .before .before .before .before .if1 .taken))
