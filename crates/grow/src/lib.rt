@@ -14,15 +14,16 @@ use words::points_per;
 use words::put;
 use words::regions_per;
 use words::word;
+ghost use mathlib.Core.List.{map};
 ghost use mathlib.Core.Path.{_≡_};
 ghost use Prim.Native.Nat.{_+_, _*_, _≤_, _<_, _^_};
-ghost use lib.ListN.{length, set};
+ghost use lib.ListN.{length, drop, set};
 ghost use lib.Seq.{sets};
 ghost use Rattle.kdb.specs.Box.{within};
 ghost use Rattle.kdb.specs.Calls.{L};
-ghost use Rattle.kdb.specs.Cut.{choose};
-ghost use Rattle.kdb.specs.Pages.{page, regionsPer, pointsPer};
-ghost use Rattle.cut.specs.Keys.{keysIn, Entries};
+ghost use Rattle.kdb.specs.Cut.{cutPoints, cutRegions};
+ghost use Rattle.kdb.specs.Pages.{page, regionsPer, pointsPer, readRecs, readEnts};
+ghost use Rattle.cut.specs.Keys.{Entries};
 ghost use Rattle.words.specs.Words.{Formed};
 ghost use Rattle.deal.specs.Part.{Along};
 ghost use Rattle.steps.specs.Machine.{word};
@@ -79,7 +80,7 @@ fn copy_overfull(over: &mut [u32], pool: &[u32], wd: usize, j: usize, entry: &[u
 // The m records of src are split between page j and a claimed page, along the cut that they offer from domain e on.
 fn break_points(pool: &mut [u32], f: Form, src: &[u32], m: usize, e: usize, j: usize) -> Grown
     requires { ⌜ Formed (now pool) f × (Entries (f .domains) (f .domains + 1) m × ((e < 2 ^ 32) × (j < 2 ^ 32))) ⌝ }
-    ensures { λ r. ⌜ (grownAs r (now (pool .exit)) ≡ breakPoints L (f .pages) (f .domains) (regionsPer L (f .domains)) (pointsPer L (f .domains)) (choose (f .domains) (f .domains) e (keysIn (f .domains) (f .domains + 1) m (now (src .entry)))) (now (src .entry)) m j (now (pool .entry))) × Real f r ⌝ }
+    ensures { λ r. ⌜ (grownAs r (now (pool .exit)) ≡ breakPoints L (f .pages) (f .domains) (regionsPer L (f .domains)) (pointsPer L (f .domains)) (cutPoints (f .domains) e (readRecs (f .domains) m (drop 4 (now (src .entry))))) (now (src .entry)) m j (now (pool .entry))) × Real f r ⌝ }
 {
     let k = f.domains;
     let c = choose(src, k, k + 1, m, e);
@@ -111,8 +112,8 @@ fn break_regions(
     e: usize,
     j: usize,
 ) -> Grown
-    requires { ⌜ Formed (now pool) f × (Entries (f .domains) (2 * f .domains + 1) m × ((e < 2 ^ 32) × (j < 2 ^ 32))) ⌝ }
-    ensures { λ r. ⌜ (grownAs r (now (pool .exit)) ≡ breakRegions L (f .pages) (f .domains) (regionsPer L (f .domains)) (pointsPer L (f .domains)) level (choose (f .domains) (f .domains) e (keysIn (f .domains) (2 * f .domains + 1) m (now (src .entry)))) (now (src .entry)) m j (now (pool .entry))) × Real f r ⌝ }
+    requires { ⌜ Formed (now pool) f × (Entries (f .domains) (2 * f .domains + 1) m × ((4 + m * (2 * f .domains + 1) ≤ length (now src)) × ((e < 2 ^ 32) × (j < 2 ^ 32)))) ⌝ }
+    ensures { λ r. ⌜ (grownAs r (now (pool .exit)) ≡ breakRegions L (f .pages) (f .domains) (regionsPer L (f .domains)) (pointsPer L (f .domains)) level (cutRegions (f .domains) e (map (λ e. e .box) (readEnts (f .domains) m (drop 4 (now (src .entry)))))) (now (src .entry)) m j (now (pool .entry))) × Real f r ⌝ }
 {
     let k = f.domains;
     let c = choose(src, k, 2 * k + 1, m, e);
