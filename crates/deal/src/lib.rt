@@ -95,6 +95,14 @@ pub fn open_pages(pool: &mut [u32], f: Form, kind: usize, e: usize, j: usize) ->
     r
 }
 
+// The left page or the right one.
+fn side(left: bool, j: usize, r: usize) -> usize
+    requires { ⌜ (j < 2 ^ 32) × (r < 2 ^ 32) ⌝ }
+    ensures { λ c. ⌜ (c ≡ cond left j r) × (c < 2 ^ 32) ⌝ }
+{
+    if left { j } else { r }
+}
+
 // The record at word a of src goes to page j if its key is below x, else to page r.
 fn deal_point(
     pool: &mut [u32],
@@ -109,11 +117,7 @@ fn deal_point(
     requires { ⌜ (k ≤ 4) × ((d ≤ 4) × ((a < 2 ^ 40) × ((j < 2 ^ 32) × (r < 2 ^ 32)))) ⌝ }
     ensures { λ _. ⌜ now (pool .exit) ≡ appendIn L (k + 1) (now (pool .entry)) (cond (ltb (getD (now (src .entry)) (a + d) 0) x) j r) (take (k + 1) (drop a (now (src .entry)))) ⌝ }
 {
-    if get(src, a + d) < x {
-        append(pool, k + 1, j, src, a);
-    } else {
-        append(pool, k + 1, r, src, a);
-    }
+    append(pool, k + 1, side(get(src, a + d) < x, j, r), src, a);
 }
 
 // The m records of src are dealt out.
@@ -183,11 +187,13 @@ pub fn deal_entry(
     requires { ⌜ (k ≤ 4) × ((d ≤ 4) × ((a < 2 ^ 40) × ((j < 2 ^ 32) × (r < 2 ^ 32)))) ⌝ }
     ensures { λ _. ⌜ now (pool .exit) ≡ appendIn L (2 * k + 1) (now (pool .entry)) (cond (leb (getD (now (src .entry)) (a + k + d) 0) x) j r) (take (2 * k + 1) (drop a (now (src .entry)))) ⌝ }
 {
-    if get(src, a + k + d) <= x {
-        append(pool, 2 * k + 1, j, src, a);
-    } else {
-        append(pool, 2 * k + 1, r, src, a);
-    }
+    append(
+        pool,
+        2 * k + 1,
+        side(get(src, a + k + d) <= x, j, r),
+        src,
+        a,
+    );
 }
 
 // Writes one half of the entry at word a of src: its word i becomes x, its child q.
