@@ -38,6 +38,22 @@ pub struct Grown {
     pub key: usize,
 }
 
+// The point was not taken.
+const SHORT: Grown = Grown {
+    ok: false,
+    page: 0,
+    domain: 0,
+    key: 0,
+};
+
+// It was taken with room.
+const FINE: Grown = Grown {
+    ok: true,
+    page: 0,
+    domain: 0,
+    key: 0,
+};
+
 // The region at word a holds the point; one that runs past the end holds none.
 fn holds(pool: &[u32], k: usize, a: usize, point: &[u32]) -> bool
     requires { ⌜ (1 ≤ k) × ((k ≤ 4) × ((a < 2 ^ 40) × (length (now point) ≡ k))) ⌝ }
@@ -86,12 +102,7 @@ fn break_points(pool: &mut [u32], f: Form, src: &[u32], m: usize, e: usize, j: u
     let c = choose(src, k, k + 1, m, e);
     let found = c.found;
     if found {} else {
-        return Grown {
-            ok: false,
-            page: 0,
-            domain: 0,
-            key: 0,
-        };
+        return SHORT;
     }
     let r = part_points(pool, f, c.domain, c.key, src, m, (c.domain + 1) % k, j);
     Grown {
@@ -119,12 +130,7 @@ fn break_regions(
     let c = choose(src, k, 2 * k + 1, m, e);
     let found = c.found;
     if found {} else {
-        return Grown {
-            ok: false,
-            page: 0,
-            domain: 0,
-            key: 0,
-        };
+        return SHORT;
     }
     let r = part_regions(
         pool,
@@ -154,24 +160,14 @@ fn settle_points(pool: &mut [u32], f: Form, m: usize, e: usize, entry: &[u32], j
     let most = points_per(k);
     if m < most {
         append(pool, k + 1, j, entry, 0);
-        return Grown {
-            ok: true,
-            page: 0,
-            domain: 0,
-            key: 0,
-        };
+        return FINE;
     }
     if m == most {
         let mut over = [0u32; 48];
         copy_overfull(&mut over, pool, k + 1, j, entry);
         return break_points(pool, f, &over[..33 + k], m + 1, e, j);
     }
-    Grown {
-        ok: false,
-        page: 0,
-        domain: 0,
-        key: 0,
-    }
+    SHORT
 }
 
 // Page j, with m entries and of domain e, likewise.
@@ -191,24 +187,14 @@ fn settle_regions(
     let most = regions_per(k);
     if m < most {
         append(pool, 2 * k + 1, j, entry, 0);
-        return Grown {
-            ok: true,
-            page: 0,
-            domain: 0,
-            key: 0,
-        };
+        return FINE;
     }
     if m == most {
         let mut over = [0u32; 48];
         copy_overfull(&mut over, pool, 2 * k + 1, j, entry);
         return break_regions(pool, f, level, &over[..33 + 2 * k], m + 1, e, j);
     }
-    Grown {
-        ok: false,
-        page: 0,
-        domain: 0,
-        key: 0,
-    }
+    SHORT
 }
 
 // Writes the point's keys, then the location.
@@ -273,12 +259,7 @@ pub fn grow(
     }
     let a = seek(pool, f, point, j);
     if a == 0 {
-        return Grown {
-            ok: false,
-            page: 0,
-            domain: 0,
-            key: 0,
-        };
+        return SHORT;
     }
     let g = grow(
         pool,
