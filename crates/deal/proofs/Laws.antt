@@ -2,9 +2,9 @@
 use mathlib.Core.Bool.{Bool, true, false, cond}
 use mathlib.Core.List.{List}
 use mathlib.Core.Path.{_≡_, refl, sym, ap, ap₂, _∙_}
-use Prim.Native.Nat.{ℕ, suc, _+_, _-_, _*_, _<_, _≤_}
+use Prim.Native.Nat.{ℕ, suc, _+_, _-_, _*_, _<_, _≤_, min}
 use native.Mathlib.Omega.{arith}
-use native.Mathlib.Nat.{suc-mul, mul-le-mul, mul-le-mul-left, min-eq-left, min-eq-right}
+use native.Mathlib.Nat.{suc-mul, mul-le-mul, mul-le-mul-left}
 use native.Mathlib.Numerals.{add-one}
 use lib.Dec.{ltb, eqb}
 use lib.ListN.{length, take, drop, getD, set, replicate, length-take, length-drop, length-set, drop-of-length-le}
@@ -20,14 +20,8 @@ use Rattle.steps.specs.Split.{pointsIn, partPoints}
 use Rattle.deal.specs.Part.{claimed, openIn, halfIn, bothIn}
 
 -- the words that a list has of those from a on
-pub has-none : (l : List ℕ) (a n : ℕ) → length l ≤ a → 0 ≡ length (take n (drop a l))
-has-none l a n h = sym (length-take n (drop a l) ∙ rw (length-drop a l) (min-eq-right (omega arith) ∙ omega arith))
-
-pub has-less : (l : List ℕ) (a n : ℕ) → length l - a < n → length l - a ≡ length (take n (drop a l))
-has-less l a n h = sym (length-take n (drop a l) ∙ rw (length-drop a l) (min-eq-right (omega arith)))
-
-pub has-all : (l : List ℕ) (a n : ℕ) → n ≤ length l - a → n ≡ length (take n (drop a l))
-has-all l a n h = sym (length-take n (drop a l) ∙ rw (length-drop a l) (min-eq-left h))
+pub has : (l : List ℕ) (a n : ℕ) → min n (length l - a) ≡ length (take n (drop a l))
+has l a n = ap (min n) (sym (length-drop a l)) ∙ sym (length-take n (drop a l))
 
 -- copying a part, word by word
 module _ (x : List ℕ) (at i : ℕ) (u y : List ℕ) where

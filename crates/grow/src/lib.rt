@@ -5,7 +5,6 @@ use cut::choose;
 use deal::append;
 use deal::copy_part;
 use deal::half;
-use deal::has;
 use deal::part_points;
 use kdb::Form;
 use split::part_regions;
@@ -236,8 +235,7 @@ fn widen(
     let m = word(pool, j, 1);
     let e = word(pool, j, 2);
     let mut entry = [0u32; 9];
-    half(&mut entry, k, pool, a, d, x, r);
-    let len = has(pool, a, 2 * k + 1);
+    let len = half(&mut entry, k, pool, a, d, x, r);
     put(pool, a + k + d, x);
     settle_regions(pool, f, level, m, e, &entry[..len], j)
 }

@@ -186,7 +186,7 @@ split-page-same-length t c = c .before .before .part-points .kept .0
 
 split-page-returns : (t : ℕ) → split-page-lts.Need-returns (split-page-calls t) (split-page-at t) split-page.Post
 split-page-returns t c = let a = (c .before .before .before .before .before .before .before .before .before .before .before .before .before .before .before .args) in
-    let e = (rw (c .before .before .before .before .before .before .before .copy-part .ensures, c .before .before .before .before .before .before .before .before .before .before .before .before .word .ensures .0, c .before .before .before .before .before .before .before .before .before .before .after-forced .ensures .0) at (c .before .before .part-points .ensures .0)) in
+    let e = (rw (c .before .before .before .before .before .before .before .copy-part .ensures .0, c .before .before .before .before .before .before .before .before .before .before .before .before .word .ensures .0, c .before .before .before .before .before .before .before .before .before .before .after-forced .ensures .0) at (c .before .before .part-points .ensures .0)) in
     (e ∙ laws.split-points (a .f .pages) (a .pool .now) (a .j) (c .before .before .before .before .before .before .before .before .before .before .before .before .before .before .before .pre .1 .0 .words) (a .f .domains) (a .d) (a .x) (a .level) (c .before .before .before .before .before .if1 .taken), c .before .before .part-points .ensures .1)
 
 split-page-sub-part-regions : (t : ℕ) → split-page-lts.Need-sub-part-regions (split-page-calls t) (split-page-at t) split-page.Post
@@ -203,7 +203,7 @@ split-page-same-length-2 t c = search needs
 
 split-page-returns-2 : (t : ℕ) → split-page-lts.Need-returns-2 (split-page-calls t) (split-page-at t) split-page.Post
 split-page-returns-2 t c = let a = (c .before .before .before .before .before .before .before .before .before .before .before .before .before .before .before .args) in
-    let e = (rw (c .before .before .before .before .before .before .before .copy-part .ensures, c .before .before .before .before .before .before .before .before .before .before .before .before .word .ensures .0, c .before .before .before .before .before .before .before .before .before .before .after-forced .ensures .0) at (c .before .before .part-regions .ensures .0)) in
+    let e = (rw (c .before .before .before .before .before .before .before .copy-part .ensures .0, c .before .before .before .before .before .before .before .before .before .before .before .before .word .ensures .0, c .before .before .before .before .before .before .before .before .before .before .after-forced .ensures .0) at (c .before .before .part-regions .ensures .0)) in
     (e ∙ laws.split-regions (a .f .pages) (a .pool .now) (a .j) (c .before .before .before .before .before .before .before .before .before .before .before .before .before .before .before .pre .1 .0 .words) (a .f .domains) (a .d) (a .x) (a .level) (a .level - 1) (omega (arith, c .before .before .before .before .before .if1 .left)), c .before .before .part-regions .ensures .1)
 
 pub +entry-pass+part-regions+split-page-spec : {M : Type 1} → statement M
