@@ -13,7 +13,7 @@ use borrow.Author.Tests.{le-leb, lt-leb, eq-eqb, ne-eqb}
 use Rattle.kdb.specs.Calls.{L}
 use Rattle.kdb.specs.Pages.{page}
 use Rattle.words.specs.Words.{lowestFree}
-use Rattle.kdb.proofs.Lists.{take-set, take-sets}
+use Rattle.kdb.proofs.Stores.{take-set, take-sets}
 use Rattle.steps.specs.Machine.{Claimed, word, freshIn, appendIn}
 use Rattle.steps.specs.Claim.{lowest, claimIn}
 use Rattle.steps.specs.Split.{pointsIn, partPoints}

@@ -16,7 +16,8 @@ use Rattle.kdb.specs.Calls.{L}
 use Rattle.kdb.specs.Cut.{cutOf, Cut, cut, choose, cutPoints, cutRegions}
 use Rattle.kdb.specs.Pages.{regionsPer, pointsPer, readRecs, readEnts, page}
 use Rattle.kdb.specs.Steps.{afterChosen}
-use Rattle.kdb.proofs.Lists.{bool, is-false, pad-sets, take-sets-in, take-pad}
+use Rattle.kdb.proofs.Tests.{bool, is-false}
+use Rattle.kdb.proofs.Stores.{pad-sets, take-sets-in, take-pad}
 use Rattle.kdb.proofs.Box.{within-length}
 use Rattle.kdb.proofs.Pages.{points-fit, regions-fit}
 use Rattle.words.specs.Loops.{keysBy}

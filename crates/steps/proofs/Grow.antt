@@ -17,7 +17,10 @@ use Rattle.kdb.specs.Cut.{Cut, nowhere, cut, cutPoints, cutRegions}
 use Rattle.kdb.specs.Steps.{Two, split, afterChosen, Up, failed, fits, parts, UpF, failedF, kept, wider, size, joinF, parted, enter, behind, chosen, settleNode, grow, growF}
 use Rattle.kdb.specs.Pages.{points, regions, layout, wordsR, wordsE, printPage, readRecs, readEnts, page}
 use Rattle.kdb.specs.Print.{ents}
-use Rattle.kdb.proofs.Lists.{bool, choice-true, choice-false, is-true, is-false, self, many-append, each-append, gather-append, pad-tail, pad-set, set-append-add}
+use Rattle.kdb.proofs.Tests.{bool, choice-true, choice-false, is-true, is-false, self}
+use Rattle.kdb.proofs.Lists.{each-append, gather-append}
+use Rattle.kdb.proofs.Counts.{many-append}
+use Rattle.kdb.proofs.Stores.{pad-tail, pad-set, set-append-add}
 use Rattle.kdb.proofs.Tiling.{part-length}
 use Rattle.kdb.proofs.Pages.{rec-length, ent-length, recs-back, ents-back}
 use Rattle.kdb.proofs.Views.{boxes-ents}

@@ -13,7 +13,7 @@ use Rattle.kdb.specs.Box.{keyAt}
 use Rattle.kdb.specs.Tree.{Rec}
 use Rattle.kdb.specs.Cut.{isLeft, isRight}
 use Rattle.kdb.specs.Pages.{layout, wordsR, page}
-use Rattle.kdb.proofs.Lists.{bool, self}
+use Rattle.kdb.proofs.Tests.{bool, self}
 use Rattle.kdb.proofs.Pages.{rec-length}
 use Rattle.steps.specs.Machine.{word, freshIn, appendIn}
 use Rattle.steps.specs.Split.{pointsIn}

@@ -11,7 +11,8 @@ use lib.ListN.{length, take, drop, getD, set, replicate, length-drop, length-rep
 use lib.Seq.{sets, drop-cons}
 use borrow.Author.Tests.{ne-eqb}
 use Rattle.kdb.specs.Lists.{every}
-use Rattle.kdb.proofs.Lists.{bool, and-true, and-assoc, sets-out}
+use Rattle.kdb.proofs.Tests.{bool, and-true, and-assoc}
+use Rattle.kdb.proofs.Stores.{sets-out}
 use Rattle.words.specs.Loops.{allBy, keysBy}
 use Rattle.words.specs.Words.{wordAt, zeroAt, freeFrom}
 
