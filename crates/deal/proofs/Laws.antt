@@ -1,19 +1,18 @@
 -- Laws of one turn, of the ends and of each return of the functions that deal out a page, over the machine forms.
 use mathlib.Core.Bool.{Bool, true, false, cond}
-use mathlib.Core.List.{List, [], _∷_}
+use mathlib.Core.List.{List}
 use mathlib.Core.Path.{_≡_, refl, sym, ap, ap₂, _∙_}
-use Prim.Native.Nat.{ℕ, suc, _+_, _-_, _*_, _<_, _≤_}
+use Prim.Native.Nat.{ℕ, suc, _+_, _-_, _*_, _<_, _≤_, min}
 use native.Mathlib.Omega.{arith}
-use native.Mathlib.Nat.{suc-mul, mul-le-mul, mul-le-mul-left, min-eq-left, min-eq-right}
+use native.Mathlib.Nat.{suc-mul, mul-le-mul, mul-le-mul-left}
 use native.Mathlib.Numerals.{add-one}
 use lib.Dec.{ltb, eqb}
 use lib.ListN.{length, take, drop, getD, set, replicate, length-take, length-drop, length-set, drop-of-length-le}
 use lib.Seq.{sets, drop-cons, getD-take, getD-drop, take-all, set-getD, getD-set-other}
 use borrow.Author.Tests.{le-leb, lt-leb, eq-eqb, ne-eqb}
-use Rattle.kdb.specs.Lists.{only, upFrom}
 use Rattle.kdb.specs.Calls.{L}
 use Rattle.kdb.specs.Pages.{page}
-use Rattle.words.specs.Words.{wordAt, firstOr, lowestFree}
+use Rattle.words.specs.Words.{lowestFree}
 use Rattle.kdb.proofs.Stores.{take-set, take-sets}
 use Rattle.steps.specs.Machine.{Claimed, word, freshIn, appendIn}
 use Rattle.steps.specs.Claim.{lowest, claimIn}
@@ -21,14 +20,8 @@ use Rattle.steps.specs.Split.{pointsIn, partPoints}
 use Rattle.deal.specs.Part.{claimed, openIn, halfIn, bothIn}
 
 -- the words that a list has of those from a on
-pub has-none : (l : List ℕ) (a n : ℕ) → length l ≤ a → 0 ≡ length (take n (drop a l))
-has-none l a n h = sym (length-take n (drop a l) ∙ rw (length-drop a l) (min-eq-right (omega arith) ∙ omega arith))
-
-pub has-less : (l : List ℕ) (a n : ℕ) → length l - a < n → length l - a ≡ length (take n (drop a l))
-has-less l a n h = sym (length-take n (drop a l) ∙ rw (length-drop a l) (min-eq-right (omega arith)))
-
-pub has-all : (l : List ℕ) (a n : ℕ) → n ≤ length l - a → n ≡ length (take n (drop a l))
-has-all l a n h = sym (length-take n (drop a l) ∙ rw (length-drop a l) (min-eq-left h))
+pub has : (l : List ℕ) (a n : ℕ) → min n (length l - a) ≡ length (take n (drop a l))
+has l a n = ap (min n) (sym (length-drop a l)) ∙ sym (length-take n (drop a l))
 
 -- copying a part, word by word
 module _ (x : List ℕ) (at i : ℕ) (u y : List ℕ) where
@@ -48,22 +41,14 @@ pub fresh-is : (w : List ℕ) (c kind e : ℕ) → set (set (sets w (32 * c) (re
 unfolding freshIn
 fresh-is w c kind e = let q : 32 * c + 32 - 32 * c ≡ 32 = omega arith in rw q
 
-first-or : (n : ℕ) (l : List ℕ) → firstOr n l ≡ getD l 0 n
-first-or n [] = refl
-first-or n (a ∷ l) = refl
-
 module _ (n kind e : ℕ) (w : List ℕ) where
-  low : lowestFree w n ≡ lowest L n w
-  unfolding lowest
-  low = first-or n (only (λ i. eqb (wordAt w i 0) 0) (upFrom (n - 1) 1))
-
   pub claim-none : lowestFree w n ≡ n → claimed 0 w ≡ claimIn L n kind e w
-  unfolding claimIn
-  claim-none h = rw (eq-eqb (lowest L n w) n (sym low ∙ h))
+  unfolding claimIn lowest
+  claim-none h = rw (eq-eqb (lowestFree w n) n h)
 
   pub claim-some : (lowestFree w n ≡ n → ⊥) → claimed (lowestFree w n) (freshIn L w (lowestFree w n) kind e) ≡ claimIn L n kind e w
-  unfolding claimIn
-  claim-some h = rw (low, ne-eqb (lowest L n w) n (λ z. h (low ∙ z)))
+  unfolding claimIn lowest
+  claim-some h = rw (ne-eqb (lowestFree w n) n h)
 
 module _ (n kind e j : ℕ) (w v : List ℕ) (r : ℕ) (h : claimed r v ≡ claimIn L n kind e w) where
   pub open-none : r ≡ 0 → claimed 0 v ≡ openIn n kind e j w

@@ -3,8 +3,10 @@
 use kdb::Form;
 use words::clear;
 use words::get;
+use words::less;
 use words::lowest_free;
 use words::put;
+use words::smaller;
 use words::word;
 ghost use mathlib.Core.Bool.{_&&_, cond};
 ghost use mathlib.Core.Path.{_≡_};
@@ -19,32 +21,18 @@ ghost use Rattle.steps.specs.Split.{pointsIn, partPoints};
 ghost use Rattle.words.specs.Words.{Formed};
 ghost use Rattle.deal.specs.Part.{claimed, openIn, halfIn, bothIn, Along};
 
-// How many of the `count` words from `from` on src has.
-pub fn has(src: &[u32], from: usize, count: usize) -> usize
-    ensures { λ r. ⌜ r ≡ length (take count (drop from (now (src .entry)))) ⌝ }
-{
-    let len = src.len();
-    if len <= from {
-        return 0;
-    }
-    if len - from < count {
-        len - from
-    } else {
-        count
-    }
-}
-
-// Copies `count` words of src from `from` on over x's words from `at` on, as far as both go.
-pub fn copy_part(x: &mut [u32], at: usize, src: &[u32], from: usize, count: usize)
+// Copies `count` words of src from `from` on over x's words from `at` on, as far as both go: how many src has.
+pub fn copy_part(x: &mut [u32], at: usize, src: &[u32], from: usize, count: usize) -> usize
     requires { ⌜ (at < 2 ^ 41) × ((from < 2 ^ 41) × (count ≤ 48)) ⌝ }
-    ensures { λ _. ⌜ now (x .exit) ≡ sets (now (x .entry)) at (take count (drop from (now (src .entry)))) ⌝ }
+    ensures { λ n. ⌜ (now (x .exit) ≡ sets (now (x .entry)) at (take count (drop from (now (src .entry))))) × ((n ≡ length (take count (drop from (now (src .entry))))) × (n ≤ count)) ⌝ }
 {
-    let n = has(src, from, count);
+    let n = smaller(count, less(src.len(), from));
     let mut i: usize = 0;
     while i < n {
         put(x, at + i, get(src, from + i));
         i += 1;
     }
+    n
 }
 
 // Page c becomes a page of that kind and splitting domain with no entry.
@@ -95,6 +83,14 @@ pub fn open_pages(pool: &mut [u32], f: Form, kind: usize, e: usize, j: usize) ->
     r
 }
 
+// The left page or the right one.
+fn side(left: bool, j: usize, r: usize) -> usize
+    requires { ⌜ (j < 2 ^ 32) × (r < 2 ^ 32) ⌝ }
+    ensures { λ c. ⌜ (c ≡ cond left j r) × (c < 2 ^ 32) ⌝ }
+{
+    if left { j } else { r }
+}
+
 // The record at word a of src goes to page j if its key is below x, else to page r.
 fn deal_point(
     pool: &mut [u32],
@@ -109,11 +105,7 @@ fn deal_point(
     requires { ⌜ (k ≤ 4) × ((d ≤ 4) × ((a < 2 ^ 40) × ((j < 2 ^ 32) × (r < 2 ^ 32)))) ⌝ }
     ensures { λ _. ⌜ now (pool .exit) ≡ appendIn L (k + 1) (now (pool .entry)) (cond (ltb (getD (now (src .entry)) (a + d) 0) x) j r) (take (k + 1) (drop a (now (src .entry)))) ⌝ }
 {
-    if get(src, a + d) < x {
-        append(pool, k + 1, j, src, a);
-    } else {
-        append(pool, k + 1, r, src, a);
-    }
+    append(pool, k + 1, side(get(src, a + d) < x, j, r), src, a);
 }
 
 // The m records of src are dealt out.
@@ -183,21 +175,24 @@ pub fn deal_entry(
     requires { ⌜ (k ≤ 4) × ((d ≤ 4) × ((a < 2 ^ 40) × ((j < 2 ^ 32) × (r < 2 ^ 32)))) ⌝ }
     ensures { λ _. ⌜ now (pool .exit) ≡ appendIn L (2 * k + 1) (now (pool .entry)) (cond (leb (getD (now (src .entry)) (a + k + d) 0) x) j r) (take (2 * k + 1) (drop a (now (src .entry)))) ⌝ }
 {
-    if get(src, a + k + d) <= x {
-        append(pool, 2 * k + 1, j, src, a);
-    } else {
-        append(pool, 2 * k + 1, r, src, a);
-    }
+    append(
+        pool,
+        2 * k + 1,
+        side(get(src, a + k + d) <= x, j, r),
+        src,
+        a,
+    );
 }
 
-// Writes one half of the entry at word a of src: its word i becomes x, its child q.
-pub fn half(to: &mut [u32], k: usize, src: &[u32], a: usize, i: usize, x: usize, q: usize)
+// Writes one half of the entry at word a of src: its word i becomes x, its child q. How many words of it src has.
+pub fn half(to: &mut [u32], k: usize, src: &[u32], a: usize, i: usize, x: usize, q: usize) -> usize
     requires { ⌜ (k ≤ 4) × ((a < 2 ^ 40) × ((x < 2 ^ 32) × (q < 2 ^ 32))) ⌝ }
-    ensures { λ _. ⌜ now (to .exit) ≡ set (set (sets (now (to .entry)) 0 (take (2 * k + 1) (drop a (now (src .entry))))) i x) (2 * k) q ⌝ }
+    ensures { λ n. ⌜ (now (to .exit) ≡ set (set (sets (now (to .entry)) 0 (take (2 * k + 1) (drop a (now (src .entry))))) i x) (2 * k) q) × ((n ≡ length (take (2 * k + 1) (drop a (now (src .entry))))) × (n ≤ 2 * k + 1)) ⌝ }
 {
-    copy_part(to, 0, src, a, 2 * k + 1);
+    let n = copy_part(to, 0, src, a, 2 * k + 1);
     put(to, i, x);
     put(to, 2 * k, q);
+    n
 }
 
 // One half of the entry at word a of src goes behind the last entry of page c: its word i becomes x, its child q.
@@ -215,8 +210,7 @@ pub fn append_half(
     ensures { λ _. ⌜ now (pool .exit) ≡ appendIn L (2 * k + 1) (now (pool .entry)) c (halfIn k (now (src .entry)) a i x q) ⌝ }
 {
     let mut words = [0u32; 9];
-    half(&mut words, k, src, a, i, x, q);
-    let n = has(src, a, 2 * k + 1);
+    let n = half(&mut words, k, src, a, i, x, q);
     append(pool, 2 * k + 1, c, &words[..n], 0);
 }
 

@@ -9,16 +9,15 @@ use native.Mathlib.Nat.{suc-mul, zero-mul, mul-le-mul, mul-le-mul-left, add-zero
 use native.Mathlib.Numerals.{add-one}
 use lib.Dec.{ltb, eqb, ltb→lt, nltb→le}
 use lib.ListN.{length, take, drop, getD, set, replicate, length-take, length-drop, length-append, List·getD-eq-default}
-use lib.Seq.{sets, length-sets, getD-take, getD-drop, drop-drop, sets-eq, take-at, take-all}
+use lib.Seq.{sets, getD-take, getD-drop, drop-drop, sets-eq, take-at, take-all}
 use borrow.Author.Tests.{lt-ltb, le-ltb, eq-eqb, ne-eqb}
-use Rattle.kdb.specs.Lists.{pad}
 use Rattle.kdb.specs.Box.{Key, sides, within, keyAt, lowerAt}
 use Rattle.kdb.specs.Calls.{L}
 use Rattle.kdb.specs.Cut.{cutOf, Cut, cut, choose, cutPoints, cutRegions}
 use Rattle.kdb.specs.Pages.{regionsPer, pointsPer, readRecs, readEnts, page}
 use Rattle.kdb.specs.Steps.{afterChosen}
 use Rattle.kdb.proofs.Tests.{bool, is-false}
-use Rattle.kdb.proofs.Stores.{pad-sets, length-pad, take-sets-in, take-pad}
+use Rattle.kdb.proofs.Stores.{pad-sets, take-sets-in, take-pad}
 use Rattle.kdb.proofs.Box.{within-length}
 use Rattle.kdb.proofs.Pages.{points-fit, regions-fit}
 use Rattle.words.specs.Loops.{keysBy}
@@ -28,7 +27,7 @@ use Rattle.cut.specs.declared.Chosen.{Chosen}
 use Rattle.deal.specs.Part.{claimed, halfIn}
 use Rattle.steps.specs.Machine.{Claimed, word, appendIn, overfull}
 use Rattle.steps.specs.Split.{partPoints, partRegions, splitIn}
-use Rattle.steps.specs.Grow.{short, fine, broke, Grown, brokeAt, boxAt, seekIn, breakPoints, breakRegions, widenIn, upIn, growIn}
+use Rattle.steps.specs.Grow.{short, fine, broke, Grown, brokeAt, boxAt, seekIn, settleIn, breakPoints, breakRegions, widenIn, upIn, growIn}
 use Rattle.grow.specs.Grown.{grownAs, settlePoints, settleRegions}
 use Rattle.grow.specs.declared.Grown.{Grown as Answer}
 
@@ -164,43 +163,23 @@ few-points m k h g = few m (k + 1) (points-fit L k m (omega arith)) (omega arith
 pub few-regions : (m k : ℕ) → m ≡ regionsPer L k → 1 ≤ k → m ≤ 14
 few-regions m k h g = few m (2 * k + 1) (regions-fit L k m (omega arith)) (omega arith)
 
+-- and ends within its copy
+pub over-regions : (m k : ℕ) → m ≡ regionsPer L k → 4 + (m + 1) * (2 * k + 1) ≤ 33 + 2 * k
+over-regions m k h = rw (add-one m) (omega (arith, suc-mul m (2 * k + 1), regions-fit L k m (omega arith)))
+
 -- one entry more
-module _ (n k m e : ℕ) (u : List ℕ) (j : ℕ) (w : List ℕ) where
-  pub points-room : m < pointsPer L k → length u ≤ k + 1 → record { how = fine; words = appendIn L (k + 1) w j (take (k + 1) u) } ≡ settlePoints n k m e u j w
-  unfolding settlePoints
-  points-room h l = rw (lt-ltb m (pointsPer L k) h, take-all (k + 1) u l)
+module _ (wd most : ℕ) (breaks : List ℕ → Grown) (m : ℕ) (u : List ℕ) (j : ℕ) (w : List ℕ) where
+  pub settle-room : m < most → length u ≤ wd → record { how = fine; words = appendIn L wd w j (take wd u) } ≡ settleIn L wd most breaks m u j w
+  unfolding settleIn
+  settle-room h l = rw (lt-ltb m most h, take-all wd u l)
 
-  pub points-full : m ≡ pointsPer L k
-      → breakPoints L n k (regionsPer L k) (pointsPer L k) (choose k k e (keysIn k (k + 1) (m + 1) (overfull L (k + 1) w j u))) (overfull L (k + 1) w j u) (m + 1) j w ≡ settlePoints n k m e u j w
-  unfolding settlePoints
-  points-full h =
-      rw (le-ltb m (pointsPer L k) (omega arith), eq-eqb m (pointsPer L k) h)
-      (ap (λ z. breakPoints L n k (regionsPer L k) (pointsPer L k) z (overfull L (k + 1) w j u) (m + 1) j w) (sym (points-choose k e (m + 1) (overfull L (k + 1) w j u))))
+  pub settle-full : m ≡ most → (src : List ℕ) → src ≡ overfull L wd w j u → breaks src ≡ settleIn L wd most breaks m u j w
+  unfolding settleIn
+  settle-full h src e = rw (le-ltb m most (omega arith), eq-eqb m most h) (ap breaks e)
 
-  pub points-over : pointsPer L k ≤ m → (m ≡ pointsPer L k → ⊥) → record { how = short; words = w } ≡ settlePoints n k m e u j w
-  unfolding settlePoints
-  points-over h g = rw (le-ltb m (pointsPer L k) h, ne-eqb m (pointsPer L k) g)
-
-over-length : (wd : ℕ) (w : List ℕ) (j : ℕ) (u : List ℕ) → length (overfull L wd w j u) ≡ 32 + wd
-unfolding overfull
-over-length wd w j u = length-sets (pad (32 + wd) (page L w j)) (4 + word L w j 1 * wd) u ∙ length-pad (32 + wd) (page L w j)
-
-module _ (n k level m e : ℕ) (u : List ℕ) (j : ℕ) (w : List ℕ) where
-  pub regions-room : m < regionsPer L k → length u ≤ 2 * k + 1 → record { how = fine; words = appendIn L (2 * k + 1) w j (take (2 * k + 1) u) } ≡ settleRegions n k level m e u j w
-  unfolding settleRegions
-  regions-room h l = rw (lt-ltb m (regionsPer L k) h, take-all (2 * k + 1) u l)
-
-  pub regions-full : m ≡ regionsPer L k
-      → breakRegions L n k (regionsPer L k) (pointsPer L k) level (choose k k e (keysIn k (2 * k + 1) (m + 1) (overfull L (2 * k + 1) w j u))) (overfull L (2 * k + 1) w j u) (m + 1) j w ≡ settleRegions n k level m e u j w
-  unfolding settleRegions
-  regions-full h =
-      rw (le-ltb m (regionsPer L k) (omega arith), eq-eqb m (regionsPer L k) h)
-      (ap (λ z. breakRegions L n k (regionsPer L k) (pointsPer L k) level z (overfull L (2 * k + 1) w j u) (m + 1) j w) (sym (regions-choose k e (m + 1) (overfull L (2 * k + 1) w j u)
-      (rw (add-one m) (omega (arith, suc-mul m (2 * k + 1), over-length (2 * k + 1) w j u, regions-fit L k m (omega arith)))))))
-
-  pub regions-over : regionsPer L k ≤ m → (m ≡ regionsPer L k → ⊥) → record { how = short; words = w } ≡ settleRegions n k level m e u j w
-  unfolding settleRegions
-  regions-over h g = rw (le-ltb m (regionsPer L k) h, ne-eqb m (regionsPer L k) g)
+  pub settle-over : most ≤ m → (m ≡ most → ⊥) → record { how = short; words = w } ≡ settleIn L wd most breaks m u j w
+  unfolding settleIn
+  settle-over h g = rw (le-ltb m most h, ne-eqb m most g)
 
 -- the record's words
 sets-snoc : (l : List ℕ) (i : ℕ) (u : List ℕ) (a : ℕ) → set (sets l i u) (i + length u) a ≡ sets l i (u ++ (a ∷ []))
@@ -217,12 +196,12 @@ record-words k p l h g =
 
 -- growing
 pub grow-points : (n k : ℕ) (p : Key) (l j : ℕ) (w : List ℕ) → settlePoints n k (word L w j 1) (word L w j 2) (p ++ (l ∷ [])) j w ≡ growIn L n k (regionsPer L k) (pointsPer L k) p l 0 j w
-unfolding settlePoints growIn
+unfolding growIn
 grow-points n k p l j w = refl
 
 pub widen-is : (n k level d x r a j : ℕ) (w : List ℕ)
     → settleRegions n k level (word L w j 1) (word L w j 2) (halfIn k w a d x r) j (set w (a + k + d) x) ≡ widenIn L n k (regionsPer L k) (pointsPer L k) level d x r a j w
-unfolding settleRegions widenIn
+unfolding widenIn
 widen-is n k level d x r a j w = refl
 
 kept : (n k R P l a j : ℕ) (g : Answer) (v : List ℕ) → g .page ≡ 0 → grownAs g v ≡ upIn L n k R P l a j (grownAs g v)

@@ -2,15 +2,14 @@
 use mathlib.Core.Bool.{cond}
 use mathlib.Core.List.{List, map}
 use Prim.Native.Nat.{ℕ, _+_, _*_, _<_}
-use lib.Dec.{ltb, eqb}
+use lib.Dec.{eqb}
 use lib.ListN.{drop}
 use Rattle.kdb.specs.Calls.{L}
 use Rattle.kdb.specs.Cut.{cutPoints, cutRegions}
 use Rattle.kdb.specs.Pages.{regionsPer, pointsPer, readRecs, readEnts}
 use Rattle.kdb.specs.declared.Form.{Form}
 use Rattle.deal.specs.Part.{Along}
-use Rattle.steps.specs.Machine.{appendIn, overfull}
-use Rattle.steps.specs.Grow.{How, short, fine, broke, Grown, breakPoints, breakRegions}
+use Rattle.steps.specs.Grow.{How, short, fine, broke, Grown, settleIn, breakPoints, breakRegions}
 use Rattle.grow.specs.declared.Grown.{Grown as Answer}
 
 abbrev pub howOf : Answer → How
@@ -25,18 +24,12 @@ pub record Real (f : Form) (g : Answer) : Type 0 where
   pub cut : Along f (g .domain) (g .key)
 
 -- page j of domain e takes the entry u behind its m entries
-unfoldable pub settlePoints : ℕ → ℕ → ℕ → ℕ → List ℕ → ℕ → List ℕ → Grown
+abbrev pub settlePoints : ℕ → ℕ → ℕ → ℕ → List ℕ → ℕ → List ℕ → Grown
 settlePoints n k m e u j w =
     let P = pointsPer L k in
-    let src = overfull L (k + 1) w j u in
-    let roomy : Grown = record { how = fine; words = appendIn L (k + 1) w j u } in
-    let full = breakPoints L n k (regionsPer L k) P (cutPoints k e (readRecs k (m + 1) (drop 4 src))) src (m + 1) j w in
-    cond (ltb m P) roomy (cond (eqb m P) full (record { how = short; words = w }))
+    settleIn L (k + 1) P (λ src. breakPoints L n k (regionsPer L k) P (cutPoints k e (readRecs k (m + 1) (drop 4 src))) src (m + 1) j w) m u j w
 
-unfoldable pub settleRegions : ℕ → ℕ → ℕ → ℕ → ℕ → List ℕ → ℕ → List ℕ → Grown
+abbrev pub settleRegions : ℕ → ℕ → ℕ → ℕ → ℕ → List ℕ → ℕ → List ℕ → Grown
 settleRegions n k level m e u j w =
     let R = regionsPer L k in
-    let src = overfull L (2 * k + 1) w j u in
-    let roomy : Grown = record { how = fine; words = appendIn L (2 * k + 1) w j u } in
-    let full = breakRegions L n k R (pointsPer L k) level (cutRegions k e (map (λ e. e .box) (readEnts k (m + 1) (drop 4 src)))) src (m + 1) j w in
-    cond (ltb m R) roomy (cond (eqb m R) full (record { how = short; words = w }))
+    settleIn L (2 * k + 1) R (λ src. breakRegions L n k R (pointsPer L k) level (cutRegions k e (map (λ e. e .box) (readEnts k (m + 1) (drop 4 src)))) src (m + 1) j w) m u j w

@@ -5,7 +5,6 @@ use cut::choose;
 use deal::append;
 use deal::copy_part;
 use deal::half;
-use deal::has;
 use deal::part_points;
 use kdb::Form;
 use split::part_regions;
@@ -14,15 +13,16 @@ use words::points_per;
 use words::put;
 use words::regions_per;
 use words::word;
+ghost use mathlib.Core.List.{map};
 ghost use mathlib.Core.Path.{_≡_};
 ghost use Prim.Native.Nat.{_+_, _*_, _≤_, _<_, _^_};
-ghost use lib.ListN.{length, set};
+ghost use lib.ListN.{length, drop, set};
 ghost use lib.Seq.{sets};
 ghost use Rattle.kdb.specs.Box.{within};
 ghost use Rattle.kdb.specs.Calls.{L};
-ghost use Rattle.kdb.specs.Cut.{choose};
-ghost use Rattle.kdb.specs.Pages.{page, regionsPer, pointsPer};
-ghost use Rattle.cut.specs.Keys.{keysIn, Entries};
+ghost use Rattle.kdb.specs.Cut.{cutPoints, cutRegions};
+ghost use Rattle.kdb.specs.Pages.{page, regionsPer, pointsPer, readRecs, readEnts};
+ghost use Rattle.cut.specs.Keys.{Entries};
 ghost use Rattle.words.specs.Words.{Formed};
 ghost use Rattle.deal.specs.Part.{Along};
 ghost use Rattle.steps.specs.Machine.{word};
@@ -36,6 +36,22 @@ pub struct Grown {
     pub domain: usize,
     pub key: usize,
 }
+
+// The point was not taken.
+const SHORT: Grown = Grown {
+    ok: false,
+    page: 0,
+    domain: 0,
+    key: 0,
+};
+
+// It was taken with room.
+const FINE: Grown = Grown {
+    ok: true,
+    page: 0,
+    domain: 0,
+    key: 0,
+};
 
 // The region at word a holds the point; one that runs past the end holds none.
 fn holds(pool: &[u32], k: usize, a: usize, point: &[u32]) -> bool
@@ -79,18 +95,13 @@ fn copy_overfull(over: &mut [u32], pool: &[u32], wd: usize, j: usize, entry: &[u
 // The m records of src are split between page j and a claimed page, along the cut that they offer from domain e on.
 fn break_points(pool: &mut [u32], f: Form, src: &[u32], m: usize, e: usize, j: usize) -> Grown
     requires { ⌜ Formed (now pool) f × (Entries (f .domains) (f .domains + 1) m × ((e < 2 ^ 32) × (j < 2 ^ 32))) ⌝ }
-    ensures { λ r. ⌜ (grownAs r (now (pool .exit)) ≡ breakPoints L (f .pages) (f .domains) (regionsPer L (f .domains)) (pointsPer L (f .domains)) (choose (f .domains) (f .domains) e (keysIn (f .domains) (f .domains + 1) m (now (src .entry)))) (now (src .entry)) m j (now (pool .entry))) × Real f r ⌝ }
+    ensures { λ r. ⌜ (grownAs r (now (pool .exit)) ≡ breakPoints L (f .pages) (f .domains) (regionsPer L (f .domains)) (pointsPer L (f .domains)) (cutPoints (f .domains) e (readRecs (f .domains) m (drop 4 (now (src .entry))))) (now (src .entry)) m j (now (pool .entry))) × Real f r ⌝ }
 {
     let k = f.domains;
     let c = choose(src, k, k + 1, m, e);
     let found = c.found;
     if found {} else {
-        return Grown {
-            ok: false,
-            page: 0,
-            domain: 0,
-            key: 0,
-        };
+        return SHORT;
     }
     let r = part_points(pool, f, c.domain, c.key, src, m, (c.domain + 1) % k, j);
     Grown {
@@ -111,19 +122,14 @@ fn break_regions(
     e: usize,
     j: usize,
 ) -> Grown
-    requires { ⌜ Formed (now pool) f × (Entries (f .domains) (2 * f .domains + 1) m × ((e < 2 ^ 32) × (j < 2 ^ 32))) ⌝ }
-    ensures { λ r. ⌜ (grownAs r (now (pool .exit)) ≡ breakRegions L (f .pages) (f .domains) (regionsPer L (f .domains)) (pointsPer L (f .domains)) level (choose (f .domains) (f .domains) e (keysIn (f .domains) (2 * f .domains + 1) m (now (src .entry)))) (now (src .entry)) m j (now (pool .entry))) × Real f r ⌝ }
+    requires { ⌜ Formed (now pool) f × (Entries (f .domains) (2 * f .domains + 1) m × ((4 + m * (2 * f .domains + 1) ≤ length (now src)) × ((e < 2 ^ 32) × (j < 2 ^ 32)))) ⌝ }
+    ensures { λ r. ⌜ (grownAs r (now (pool .exit)) ≡ breakRegions L (f .pages) (f .domains) (regionsPer L (f .domains)) (pointsPer L (f .domains)) level (cutRegions (f .domains) e (map (λ e. e .box) (readEnts (f .domains) m (drop 4 (now (src .entry)))))) (now (src .entry)) m j (now (pool .entry))) × Real f r ⌝ }
 {
     let k = f.domains;
     let c = choose(src, k, 2 * k + 1, m, e);
     let found = c.found;
     if found {} else {
-        return Grown {
-            ok: false,
-            page: 0,
-            domain: 0,
-            key: 0,
-        };
+        return SHORT;
     }
     let r = part_regions(
         pool,
@@ -153,24 +159,14 @@ fn settle_points(pool: &mut [u32], f: Form, m: usize, e: usize, entry: &[u32], j
     let most = points_per(k);
     if m < most {
         append(pool, k + 1, j, entry, 0);
-        return Grown {
-            ok: true,
-            page: 0,
-            domain: 0,
-            key: 0,
-        };
+        return FINE;
     }
     if m == most {
         let mut over = [0u32; 48];
         copy_overfull(&mut over, pool, k + 1, j, entry);
         return break_points(pool, f, &over[..33 + k], m + 1, e, j);
     }
-    Grown {
-        ok: false,
-        page: 0,
-        domain: 0,
-        key: 0,
-    }
+    SHORT
 }
 
 // Page j, with m entries and of domain e, likewise.
@@ -190,24 +186,14 @@ fn settle_regions(
     let most = regions_per(k);
     if m < most {
         append(pool, 2 * k + 1, j, entry, 0);
-        return Grown {
-            ok: true,
-            page: 0,
-            domain: 0,
-            key: 0,
-        };
+        return FINE;
     }
     if m == most {
         let mut over = [0u32; 48];
         copy_overfull(&mut over, pool, 2 * k + 1, j, entry);
         return break_regions(pool, f, level, &over[..33 + 2 * k], m + 1, e, j);
     }
-    Grown {
-        ok: false,
-        page: 0,
-        domain: 0,
-        key: 0,
-    }
+    SHORT
 }
 
 // Writes the point's keys, then the location.
@@ -249,8 +235,7 @@ fn widen(
     let m = word(pool, j, 1);
     let e = word(pool, j, 2);
     let mut entry = [0u32; 9];
-    half(&mut entry, k, pool, a, d, x, r);
-    let len = has(pool, a, 2 * k + 1);
+    let len = half(&mut entry, k, pool, a, d, x, r);
     put(pool, a + k + d, x);
     settle_regions(pool, f, level, m, e, &entry[..len], j)
 }
@@ -272,12 +257,7 @@ pub fn grow(
     }
     let a = seek(pool, f, point, j);
     if a == 0 {
-        return Grown {
-            ok: false,
-            page: 0,
-            domain: 0,
-            key: 0,
-        };
+        return SHORT;
     }
     let g = grow(
         pool,

@@ -1,15 +1,13 @@
 -- Laws of each return of placing and removing, over the machine forms.
-use mathlib.Core.Bool.{Bool, true, false, cond}
+use mathlib.Core.Bool.{Bool, true, false}
 use mathlib.Core.List.{List, [], _∷_, _++_}
-use mathlib.Core.Path.{_≡_, refl, sym, ap, _∙_}
+use mathlib.Core.Path.{_≡_, refl, ap, _∙_}
 use Prim.Native.Nat.{ℕ, zero, suc, _+_, _-_, _*_, _<_, _≤_}
 use native.Mathlib.Omega.{arith}
 use native.Mathlib.Nat.{mul-le-mul}
-use lib.Dec.{eqb}
 use lib.ListN.{take, drop, getD, set, replicate}
 use lib.Seq.{sets, set-comm, set-set}
 use borrow.Author.Tests.{eq-eqb, ne-eqb}
-use Rattle.kdb.specs.Lists.{only, upFrom}
 use Rattle.kdb.specs.Box.{Key}
 use Rattle.kdb.specs.Calls.{L}
 use Rattle.kdb.specs.Pages.{regionsPer, pointsPer}
@@ -21,8 +19,8 @@ use Rattle.deal.specs.Part.{claimed, halfIn}
 use Rattle.split.specs.Part.{passed}
 use Rattle.grow.specs.Grown.{grownAs}
 use Rattle.grow.specs.declared.Grown.{Grown as Answer}
-use Rattle.steps.specs.Machine.{word, headIn, freshIn, appendIn}
-use Rattle.steps.specs.Claim.{lowest, claimIn}
+use Rattle.steps.specs.Machine.{word, headIn, appendIn}
+use Rattle.steps.specs.Claim.{claimIn}
 use Rattle.steps.specs.Grow.{growIn}
 use Rattle.steps.specs.Place.{space, rootIn, toppedIn, firstIn, restored, placeIn}
 use Rattle.steps.specs.Remove.{downIn, closeIn, removeIn}
@@ -60,37 +58,11 @@ whole-half k i x q h g l =
     ap (λ u. set (set u i x) (2 * k) q) (whole-at k h g)
     ∙ ap (λ u. set u (2 * k) q) (set-comm (space k) (2 * k) i v x (λ z. omega arith)) ∙ set-set (set (space k) i x) (2 * k) v q
 
--- where no page was claimed, the words are those before
-lowest-none : (g : ℕ → Bool) (n m c : ℕ) → 1 ≤ c → 0 ≡ getD (only g (upFrom m c)) 0 n → n ≡ 0
-lowest-none g n zero c h e = sym e
-lowest-none g n (suc m) c h e = go (g c) e (lowest-none g n m (suc c) (omega arith))
-  where
-    go : (t : Bool) → 0 ≡ getD (cond t (c ∷ only g (upFrom m (suc c))) (only g (upFrom m (suc c)))) 0 n → (0 ≡ getD (only g (upFrom m (suc c))) 0 n → n ≡ 0) → n ≡ 0
-    go true e r = absurd (omega arith)
-    go false e r = r e
-
-claim-same : (n kind e r : ℕ) (w v : List ℕ) → claimed r v ≡ claimIn L n kind e w → r ≡ 0 → v ≡ w
-unfolding claimIn lowest
-claim-same n kind e r w v h z = go (eqb c n) (eq-eqb c n) h
-  where
-    g : ℕ → Bool
-    g i = eqb (word L w i 0) 0
-
-    c : ℕ
-    c = getD (only g (upFrom (n - 1) 1)) 0 n
-
-    go : (t : Bool) → (c ≡ n → t ≡ true) → claimed r v ≡ cond t (claimed 0 w) (claimed c (freshIn L w c kind e)) → v ≡ w
-    go true f h = ap (λ o. o .words) h
-    go false f h =
-        let q : 0 ≡ c = sym z ∙ ap (λ o. o .page) h in
-        let y : false ≡ true = f (sym q ∙ sym (lowest-none g n (n - 1) 1 (omega arith) q)) in
-        absurd (let x : _≡_ {A = ℕ} 0 1 = cc in omega arith)
-
 -- the new root
 module _ (n k d x l r levels count : ℕ) (w v : List ℕ) (top : ℕ) (h : claimed top v ≡ claimIn L n 1 0 w) where
   pub root-none : top ≡ 0 → passed false v ≡ rootIn L n k d x l r levels count w
   unfolding rootIn
-  root-none z = rw (claim-same n 1 0 top w v h z, ← h, eq-eqb top 0 z)
+  root-none z = rw (← h, eq-eqb top 0 z)
 
   pub root-some : (top ≡ 0 → ⊥)
       → passed true (headIn (appendIn L (2 * k + 1) (appendIn L (2 * k + 1) v top (set (set (space k) (k + d) x) (2 * k) l)) top (set (set (space k) d x) (2 * k) r)) top (levels + 1) (count + 1))
@@ -102,7 +74,7 @@ module _ (n k d x l r levels count : ℕ) (w v : List ℕ) (top : ℕ) (h : clai
 module _ (n k : ℕ) (p : Key) (l : ℕ) (w v : List ℕ) (r : ℕ) (h : claimed r v ≡ claimIn L n 2 0 w) where
   pub first-none : r ≡ 0 → passed false v ≡ firstIn L n k p l w
   unfolding firstIn
-  first-none z = rw (claim-same n 2 0 r w v h z, ← h, eq-eqb r 0 z)
+  first-none z = rw (← h, eq-eqb r 0 z)
 
   pub first-some : (r ≡ 0 → ⊥) → passed true (headIn (appendIn L (k + 1) v r (p ++ (l ∷ []))) r 1 1) ≡ firstIn L n k p l w
   unfolding firstIn

@@ -9,10 +9,11 @@ use kdb::Form;
 use words::clear;
 use words::copy;
 use words::get;
+use words::less;
 use words::put;
 use words::word;
 ghost use mathlib.Core.Path.{_≡_};
-ghost use Prim.Native.Nat.{_+_, _-_, _<_, _^_};
+ghost use Prim.Native.Nat.{_+_, _<_, _^_};
 ghost use lib.ListN.{length};
 ghost use Rattle.kdb.specs.Calls.{L};
 ghost use Rattle.kdb.specs.Pool.{rootAt, levelsAt, countAt};
@@ -125,13 +126,6 @@ pub fn place_in(pool: &mut [u32], work: &mut [u32], f: Form, point: &[u32], loca
     }
     copy(pool, work);
     false
-}
-
-// a less b, and 0 where b is more.
-fn less(a: usize, b: usize) -> usize
-    ensures { λ r. ⌜ r ≡ a - b ⌝ }
-{
-    if a < b { 0 } else { a - b }
 }
 
 // The n words behind the wd words at word a move down over them.

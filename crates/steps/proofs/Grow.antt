@@ -27,7 +27,7 @@ use Rattle.kdb.proofs.Views.{boxes-ents}
 use Rattle.kdb.proofs.Fair.{FairPoints, FairRegions, FairWider, Fair, FairF}
 use Rattle.steps.specs.Machine.{Claimed, word, appendIn, overfull}
 use Rattle.steps.specs.Split.{partPoints, partRegions, splitIn}
-use Rattle.steps.specs.Grow.{short, fine, broke, Grown, brokeAt, boxAt, seekIn, breakPoints, breakRegions, widenIn, upIn, growIn}
+use Rattle.steps.specs.Grow.{short, fine, broke, Grown, brokeAt, boxAt, seekIn, settleIn, breakPoints, breakRegions, widenIn, upIn, growIn}
 use Rattle.steps.proofs.Machine.{Wrote, wrote, append, over, layout-sets}
 use Rattle.steps.proofs.Entry.{ent, entry-child, entry-left, entry-right, words-at, words-after, word-in, box-at}
 use Rattle.steps.proofs.Held.{Holds, HoldsF, holds-join, join-holds, frameF, Keys, Fits, FitsF, fits-join, join-fits, records-length, entries-length, size-ents, size-join, ents-join, words-join, many-join}
@@ -187,7 +187,7 @@ module _ (L N k R P : ℕ) (big : 4 ≤ L) (fitR : 4 + R * (2 * k + 1) ≤ L) (f
     grows-leaf : (p e : ℕ) (rs : List Rec) (w free : List ℕ) → (length rs ≤ P) × Keys k rs → page L w p ≡ printPage L (points e rs) → Free L N w free → ((c : ℕ) → many c (p ∷ []) + many c free ≤ 1)
         → Fair k R P (leaf p e rs) q free
         → OutcomeG L N k R P 0 w (leaf p e rs) free (grow k R P (leaf p e rs) q free) (growIn L N k R P (q .key) (q .loc) 0 p w)
-    unfolding growIn
+    unfolding growIn settleIn
     grows-leaf p e rs w free fit h f once fair =
         let m = length rs in
         let u = wordsR q in
@@ -237,12 +237,12 @@ module _ (L N k R P : ℕ) where
   module _ (n d x r a j : ℕ) (w u v : List ℕ) (m e : ℕ) (p : word L w j 1 ≡ m) (q : word L w j 2 ≡ e)
       (h : set (set (take (2 * k + 1) (drop a w)) d x) (2 * k) r ≡ u) (z : set w (a + k + d) x ≡ v) where
     widen-room : m < R → widenIn L N k R P n d x r a j w ≡ record { how = fine; words = appendIn L (2 * k + 1) v j u }
-    unfolding widenIn
+    unfolding widenIn settleIn
     widen-room l = rw (p, q, h, z, lt-ltb m R l)
 
     widen-full : m ≡ R → widenIn L N k R P n d x r a j w
         ≡ breakRegions L N k R P n (cutRegions k e (map (λ e. e .box) (readEnts k (m + 1) (drop 4 (overfull L (2 * k + 1) v j u))))) (overfull L (2 * k + 1) v j u) (m + 1) j v
-    unfolding widenIn
+    unfolding widenIn settleIn
     widen-full l = rw (p, q, h, z, le-ltb m R (omega arith), eq-eqb m R l)
 
   module _ (p : Key) (l n j : ℕ) (w : List ℕ) (m a : ℕ) (h : word L w j 1 ≡ m) (s : seekIn k p m w (L * j + 4) ≡ a) where

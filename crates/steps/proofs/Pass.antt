@@ -33,6 +33,9 @@ pub record Cursor (L : ℕ) (w : List ℕ) (j r kd e wd nL nR mL : ℕ) (wsL : L
   pub jr : bit (eqb j r) ≡ 0
   pub rj : bit (eqb r j) ≡ 0
 
+turned : {L : ℕ} {w : List ℕ} {j r kd e wd nL nR mL : ℕ} {wsL : List ℕ} {mR : ℕ} {wsR : List ℕ} → Cursor L w j r kd e wd nL nR mL wsL mR wsR → Cursor L w r j kd e wd nR nL mR wsR mL wsL
+turned c = record { left = c .right; right = c .left; lenL = c .lenR; lenR = c .lenL; roomL = c .roomR; roomR = c .roomL; jr = c .rj; rj = c .jr }
+
 -- only the two pages changed, and their kinds did not
 pub record Moved (L : ℕ) (w : List ℕ) (j r : ℕ) (w′ : List ℕ) : Type 0 where
   pub keep : (c : ℕ) → bit (eqb c j) + bit (eqb c r) ≡ 0 → page L w′ c ≡ page L w c
@@ -77,25 +80,13 @@ module _ (L : ℕ) (big : 4 ≤ L) where
       pub left-moved : Moved L w j r (appendIn L wd w j u)
       left-moved = record { keep = λ c h. wroteL .there c (omega arith); kinds = kinds L big w (appendIn L wd w j u) j kd mL (suc mL) e e wsL (wsL ++ u) (cur .left) wroteL; long = wroteL .long }
 
-    module _ (cur : Cursor L w j r kd e wd nL (suc nR) mL wsL mR wsR) where
-      wroteR : Wrote L w r (layout L kd (suc mR) e (wsR ++ u)) (appendIn L wd w r u)
-      wroteR = append L big wd w r kd mR e wsR u (cur .right) (cur .lenR) l (roomy wd nR mR (cur .roomR) .0)
+  -- the right page likewise: the two pages change places
+  module _ (w : List ℕ) (j r kd e wd nL nR mL : ℕ) (wsL : List ℕ) (mR : ℕ) (wsR u : List ℕ) (l : length u ≡ wd) (cur : Cursor L w j r kd e wd nL (suc nR) mL wsL mR wsR) where
+    pub to-right : Cursor L (appendIn L wd w r u) j r kd e wd nL nR mL wsL (suc mR) (wsR ++ u)
+    to-right = turned (to-left w r j kd e wd nR nL mR wsR mL wsL u l (turned cur))
 
-      pub to-right : Cursor L (appendIn L wd w r u) j r kd e wd nL nR mL wsL (suc mR) (wsR ++ u)
-      to-right =
-          record {
-            left = wroteR .there j (cur .jr) ∙ cur .left;
-            right = wroteR .here;
-            lenL = cur .lenL;
-            lenR = longer mR wsR (cur .lenR);
-            roomL = cur .roomL;
-            roomR = roomy wd nR mR (cur .roomR) .1;
-            jr = cur .jr;
-            rj = cur .rj;
-          }
-
-      pub right-moved : Moved L w j r (appendIn L wd w r u)
-      right-moved = record { keep = λ c h. wroteR .there c (omega arith); kinds = kinds L big w (appendIn L wd w r u) r kd mR (suc mR) e e wsR (wsR ++ u) (cur .right) wroteR; long = wroteR .long }
+    pub right-moved : Moved L w j r (appendIn L wd w r u)
+    right-moved = let m = left-moved w r j kd e wd nR nL mR wsR mL wsL u l (turned cur) in record { keep = λ c h. m .keep c (omega arith); kinds = m .kinds; long = m .long }
 
 -- one more entry
 pub count-on : (L kd m n e : ℕ) (ws u vs : List ℕ) → layout L kd (suc m + n) e ((ws ++ u) ++ vs) ≡ layout L kd (m + suc n) e (ws ++ (u ++ vs))

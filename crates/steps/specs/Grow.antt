@@ -33,6 +33,13 @@ unfoldable pub seekIn : ℕ → Key → ℕ → List ℕ → ℕ → ℕ
 seekIn k p zero src a = 0
 seekIn k p (suc n) src a = let later = seekIn k p n src (a + (2 * k + 1)) in cond (within (boxAt k src a) p) a later
 
+-- page j takes the entry u of wd words behind its m entries: with room, or, full, as the copy with one entry more is broken
+unfoldable pub settleIn : ℕ → ℕ → ℕ → (List ℕ → Grown) → ℕ → List ℕ → ℕ → List ℕ → Grown
+settleIn L wd most breaks m u j w =
+    let roomy : Grown = record { how = fine; words = appendIn L wd w j u } in
+    let full = breaks (overfull L wd w j u) in
+    cond (ltb m most) roomy (cond (eqb m most) full (record { how = short; words = w }))
+
 -- L words a page, N pages, k domains, R regions and P points a page
 module _ (L N k R P : ℕ) where
   -- the m records of src are cut between page j and a claimed page
@@ -52,10 +59,7 @@ module _ (L N k R P : ℕ) where
       let m = word L w j 1 in
       let u = set (set (take wd (drop a w)) d x) (2 * k) r in
       let v = set w (a + k + d) x in
-      let src = overfull L wd v j u in
-      let roomy : Grown = record { how = fine; words = appendIn L wd v j u } in
-      let full = breakRegions n (cutRegions k (word L w j 2) (map (λ e. e .box) (readEnts k (m + 1) (drop 4 src)))) src (m + 1) j v in
-      cond (ltb m R) roomy (cond (eqb m R) full (record { how = short; words = v }))
+      settleIn L wd R (λ src. breakRegions n (cutRegions k (word L w j 2) (map (λ e. e .box) (readEnts k (m + 1) (drop 4 src)))) src (m + 1) j v) m u j v
 
   abbrev pub upIn : ℕ → ℕ → ℕ → Grown → Grown
   upIn n a j g = elim (g .how) [ short ↦ g | fine ↦ g | broke d x r ↦ widenIn n d x r a j (g .words) ]
@@ -64,11 +68,7 @@ module _ (L N k R P : ℕ) where
   unfoldable pub growIn : Key → ℕ → ℕ → ℕ → List ℕ → Grown
   growIn p l zero j w =
       let m = word L w j 1 in
-      let u = p ++ (l ∷ []) in
-      let src = overfull L (k + 1) w j u in
-      let roomy : Grown = record { how = fine; words = appendIn L (k + 1) w j u } in
-      let full = breakPoints (cutPoints k (word L w j 2) (readRecs k (m + 1) (drop 4 src))) src (m + 1) j w in
-      cond (ltb m P) roomy (cond (eqb m P) full (record { how = short; words = w }))
+      settleIn L (k + 1) P (λ src. breakPoints (cutPoints k (word L w j 2) (readRecs k (m + 1) (drop 4 src))) src (m + 1) j w) m (p ++ (l ∷ [])) j w
   growIn p l (suc n) j w =
       let a = seekIn k p (word L w j 1) w (L * j + 4) in
       let lost : Grown = record { how = short; words = w } in

@@ -25,7 +25,7 @@ module _ (L N k : ℕ) where
       let one = appendIn L wd (top .words) (top .page) (set (set (space k) (k + d) x) (2 * k) l) in
       let two = appendIn L wd one (top .page) (set (set (space k) d x) (2 * k) r) in
       let done : Passed = record { ok = true; words = headIn two (top .page) (n + 1) (c + 1) } in
-      cond (eqb (top .page) 0) (record { ok = false; words = w }) done
+      cond (eqb (top .page) 0) (record { ok = false; words = top .words }) done
 
   -- what the root, page j under n levels with c records before, became
   unfoldable pub toppedIn : ℕ → ℕ → ℕ → Grown → Passed
@@ -37,7 +37,7 @@ module _ (L N k : ℕ) where
   firstIn p l w =
       let r = claimIn L N 2 0 w in
       let done : Passed = record { ok = true; words = headIn (appendIn L (k + 1) (r .words) (r .page) (p ++ (l ∷ []))) (r .page) 1 1 } in
-      cond (eqb (r .page) 0) (record { ok = false; words = w }) done
+      cond (eqb (r .page) 0) (record { ok = false; words = r .words }) done
 
 -- where a page was wanting, the words before
 abbrev pub restored : List ℕ → Passed → Passed

@@ -1,6 +1,6 @@
 -- The words that the accessors give, over a whole pool. A word past the end is 0.
 use mathlib.Core.Bool.{Bool, true, false, cond}
-use mathlib.Core.List.{List, [], _∷_}
+use mathlib.Core.List.{List}
 use mathlib.Core.Path.{_≡_}
 use Prim.Native.Nat.{ℕ, zero, suc, _+_, _-_, _*_, _^_, _≤_, _<_}
 use lib.Dec.{eqb}
@@ -64,18 +64,13 @@ pointKey w k j e d = getD w (keyAt k j e d) 0
 abbrev pub pointLocation : List ℕ → ℕ → ℕ → ℕ → ℕ
 pointLocation w k j e = getD w (locationAt k j e) 0
 
--- the first of a list, or n
-abbrev pub firstOr : ℕ → List ℕ → ℕ
-firstOr n [] = n
-firstOr n (j ∷ js) = j
-
 -- of m pages from j on, those whose kind is 0
 abbrev pub freeFrom : List ℕ → ℕ → ℕ → List ℕ
 freeFrom w m j = only (λ i. eqb (wordAt w i 0) 0) (upFrom m j)
 
 -- the lowest free page of n, or n
 abbrev pub lowestFree : List ℕ → ℕ → ℕ
-lowestFree w n = firstOr n (freeFrom w (n - 1) 1)
+lowestFree w n = getD (freeFrom w (n - 1) 1) 0 n
 
 -- the region at word a, and the keys of the record in slot e of page j
 abbrev pub regionAt : ℕ → List ℕ → ℕ → Box

@@ -83,6 +83,13 @@ pub fn larger(a: usize, b: usize) -> usize
     if a < b { b } else { a }
 }
 
+// a less b, and 0 where b is more.
+pub fn less(a: usize, b: usize) -> usize
+    ensures { λ r. ⌜ r ≡ a - b ⌝ }
+{
+    if a < b { 0 } else { a - b }
+}
+
 // The words from `from` to `to`, which are the pool's, are 0.
 pub fn zeros_in(pool: &[u32], from: usize, to: usize) -> bool
     requires { ⌜ to ≤ length (now pool) ⌝ }

@@ -51,7 +51,7 @@ same-length c = search needs
 
 returns : tie.Need-returns
 returns c = let e = c .before .before .before .before .before .before .before .before .before .word .ensures .0 in
-    c .before .before .put .ensures ∙ (rw (c .before .before .before .before .before .before .copy-part .ensures, e) (append-room (c .before .before .before .before .before .before .before .before .before .before .before .before .before .args .wd) (c .before .before .before .before .before .before .before .before .before .before .before .before .before .args .pool .now) (c .before .before .before .before .before .before .before .before .before .before .before .before .before .args .c) _ (rw e at (c .before .before .before .before .before .before .before .before .if1 .taken))))
+    c .before .before .put .ensures ∙ (rw (c .before .before .before .before .before .before .copy-part .ensures .0, e) (append-room (c .before .before .before .before .before .before .before .before .before .before .before .before .before .args .wd) (c .before .before .before .before .before .before .before .before .before .before .before .before .before .args .pool .now) (c .before .before .before .before .before .before .before .before .before .before .before .before .before .args .c) _ (rw e at (c .before .before .before .before .before .before .before .before .if1 .taken))))
 
 same-length-2 : tie.Need-same-length-2
 same-length-2 c = search needs

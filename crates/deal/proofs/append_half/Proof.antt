@@ -4,7 +4,7 @@ use Prim.Native.Nat.{_+_, _*_}
 use lib.Seq.{length-take-le}
 use mathlib.Core.Path.{sym, ap, ap₂, _∙_}
 use Rattle.steps.specs.Machine.{appendIn}
-use lib.ListN.{take, drop, length-take, replicate}
+use lib.ListN.{take, replicate}
 use Rattle.deal.proofs.Laws.{half-words}
 use borrow.Author.Needs.{needs}
 use native.Mathlib.Omega.{arith}
@@ -17,15 +17,6 @@ slice-aggregate-half c = search needs
 half-requires : tie.Need-half-requires
 half-requires c κs = search needs
 
-mul-has : tie.Need-mul-has
-mul-has c = search needs
-
-add-has : tie.Need-add-has
-add-has c = search needs
-
-has-requires : tie.Need-has-requires
-has-requires c κs = search needs
-
 mul-append : tie.Need-mul-append
 mul-append c = search needs
 
@@ -33,12 +24,10 @@ add-append : tie.Need-add-append
 add-append c = search needs
 
 array-share-prefix-words : tie.Need-array-share-prefix-words
-array-share-prefix-words c = let a = (c .before .before .before .before .before .before .before .args) in
-    omega (arith, c .before .has .ensures, length-take (2 * a .k + 1) (drop (a .a) (a .src .now)), c .before .before .before .half .kept .0)
+array-share-prefix-words c = search needs
 
 slice-aggregate-append : tie.Need-slice-aggregate-append
-slice-aggregate-append c = let a = (c .before .before .before .before .before .before .before .before .args) in
-    sym (length-take-le _ _ (omega (arith, c .before .before .has .ensures, length-take (2 * a .k + 1) (drop (a .a) (a .src .now)), c .before .before .before .before .half .kept .0)))
+slice-aggregate-append c = sym (length-take-le _ _ (omega (arith, c .before .before .before .half .ensures .1, c .before .before .before .half .kept .0)))
 
 append-requires : tie.Need-append-requires
 append-requires c κs = search needs
@@ -47,9 +36,9 @@ same-length : tie.Need-same-length
 same-length c = search needs
 
 returns : tie.Need-returns
-returns c = let a = (c .before .before .before .before .before .before .before .before .before .before .before .args) in
+returns c = let a = c .before .before .before .before .before .before .before .before .before .before .args in
     let wd = 2 * a .k + 1 in
-    c .before .before .append .ensures ∙ ap (appendIn 32 wd (a .pool .now) (a .c)) (ap₂ (λ m l. take wd (take m l)) (c .before .before .before .before .before .has .ensures) (c .before .before .before .before .before .before .before .half .ensures) ∙ half-words (a .k) (a .src .now) (a .a) (a .i) (a .x) (a .q) (replicate 9 0) (omega arith))
+    c .before .before .append .ensures ∙ ap (appendIn 32 wd (a .pool .now) (a .c)) (ap₂ (λ m l. take wd (take m l)) (c .before .before .before .before .before .before .half .ensures .1 .0) (c .before .before .before .before .before .before .half .ensures .0) ∙ half-words (a .k) (a .src .now) (a .a) (a .i) (a .x) (a .q) (replicate 9 0) (omega arith))
 
 pub append-half-spec : {M : Type 1} → statement M
 append-half-spec =
@@ -57,9 +46,6 @@ append-half-spec =
     (tie.spec
     slice-aggregate-half
     half-requires
-    mul-has
-    add-has
-    has-requires
     mul-append
     add-append
     array-share-prefix-words

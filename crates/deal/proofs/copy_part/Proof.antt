@@ -1,32 +1,39 @@
--- `deal::copy_part` meets its contract: copies `count` words of src from `from` on over x's words from `at` on, as far as both go.
-use Prim.Native.Nat.{_≤_, _-_, _+_}
+-- `deal::copy_part` meets its contract: copies `count` words of src from `from` on over x's words from `at` on, as far as both go: how
+-- many src has.
+use Prim.Native.Nat.{_≤_, _-_, _+_, min}
 use native.Mathlib.Nat.{add-zero}
-use mathlib.Core.Path.{_≡_, refl, _∙_}
+use mathlib.Core.Path.{_≡_, refl, ap, _∙_}
 use lib.Seq.{sets}
-use lib.ListN.{length, take, drop, length-take}
-use Rattle.deal.proofs.Laws.{part-end, part-next, part-word}
+use lib.ListN.{length, take, drop}
+use Rattle.deal.proofs.Laws.{has, part-end, part-next, part-word}
 use borrow.Author.Needs.{needs}
 use native.Mathlib.Omega.{arith}
 use Rattle.deal.proofs.copy_part.Statement.{statement}
 use Rattle.deal.proofs.copy_part.Tie as tie
 
 abbrev Inv-loop : tie.InvT-loop
-Inv-loop x₀ at src from count n i₀ x i = (i ≤ n) × (n ≡ length (take count (drop from src))) × (length x ≡ length x₀) × (sets x (at + i) (drop i (take count (drop from src))) ≡ sets x₀ at (take count (drop from src)))
+Inv-loop x₀ at src from count n i₀ x i = (i ≤ n) × (n ≡ length (take count (drop from src))) × (n ≤ count) × (length x ≡ length x₀)
+    × (sets x (at + i) (drop i (take count (drop from src))) ≡ sets x₀ at (take count (drop from src)))
 
 abbrev μ-loop : tie.MeasureT-loop
 μ-loop x₀ at src from count n i₀ x i = n - i
 
-has-requires : tie.Need-has-requires Inv-loop μ-loop
-has-requires c κs = search needs
+less-requires : tie.Need-less-requires Inv-loop μ-loop
+less-requires c κs = search needs
+
+smaller-requires : tie.Need-smaller-requires Inv-loop μ-loop
+smaller-requires c κs = search needs
 
 loop-holds : tie.Need-loop-holds Inv-loop μ-loop
-loop-holds c = (omega arith, c .has .ensures, refl, rw (add-zero (c .before .before .before .args .at)))
+loop-holds c = let a = c .before .before .before .before .args in
+    let e = c .smaller .ensures ∙ ap (min (a .count)) (c .before .less .ensures) in
+    (omega arith, e ∙ has (a .src .now) (a .from) (a .count), omega (arith, e), refl, rw (add-zero (a .at)))
 
 add-put : tie.Need-add-put Inv-loop μ-loop
-add-put c = omega (arith, c .before .before .loop .inv .1, length-take (c .before .before .before .before .before .before .args .count) (drop (c .before .before .before .before .before .before .args .from) (c .before .before .before .before .before .before .args .src .now)))
+add-put c = search needs
 
 add-get : tie.Need-add-get Inv-loop μ-loop
-add-get c = omega (arith, c .before .before .loop .inv .1, length-take (c .before .before .before .before .before .before .args .count) (drop (c .before .before .before .before .before .before .args .from) (c .before .before .before .before .before .before .args .src .now)))
+add-get c = search needs
 
 get-requires : tie.Need-get-requires Inv-loop μ-loop
 get-requires c κs = search needs
@@ -41,17 +48,18 @@ loop-less : tie.Need-loop-less Inv-loop μ-loop
 loop-less c = search needs
 
 loop-again : tie.Need-loop-again Inv-loop μ-loop
-loop-again c = let i = c .before .before .before .before .before .before .loop .inv in
-    let u = take (c .before .before .before .before .before .before .before .before .before .before .args .count) (drop (c .before .before .before .before .before .before .before .before .before .before .args .from) (c .before .before .before .before .before .before .before .before .before .before .args .src .now)) in
-    let h = part-word (c .before .before .before .before .before .before .before .before .before .before .args .src .now) (c .before .before .before .before .before .before .before .before .before .before .args .from) (c .before .before .before .before .before .before .before .before .before .before .args .count) (c .before .before .before .before .before .before .loop .i) (omega (arith, i .1)) in
-    (omega arith, i .1, c .before .before .put .kept .0 ∙ i .2, rw (c .before .before .put .ensures, c .before .before .before .get .ensures .0, ← h) (part-next (c .before .before .before .before .before .before .loop .x) (c .before .before .before .before .before .before .before .before .before .before .args .at) (c .before .before .before .before .before .before .loop .i) u _ (i .3) (omega (arith, i .1))))
+loop-again c = let a = c .before .before .before .before .before .before .before .before .before .before .before .args in
+    let i = c .before .before .before .before .before .before .loop .inv in
+    let h = part-word (a .src .now) (a .from) (a .count) (c .before .before .before .before .before .before .loop .i) (omega (arith, i .1)) in
+    (omega arith, i .1, i .2, c .before .before .put .kept .0 ∙ i .3, rw (c .before .before .put .ensures, c .before .before .before .get .ensures .0, ← h) (part-next (c .before .before .before .before .before .before .loop .x) (a .at) (c .before .before .before .before .before .before .loop .i) (take (a .count) (drop (a .from) (a .src .now))) _ (i .4) (omega (arith, i .1))))
 
 same-length : tie.Need-same-length Inv-loop μ-loop
-same-length c = c .before .loop .inv .2
+same-length c = c .before .loop .inv .3
 
 returns : tie.Need-returns Inv-loop μ-loop
-returns c = let u = take (c .before .before .before .before .before .args .count) (drop (c .before .before .before .before .before .args .from) (c .before .before .before .before .before .args .src .now)) in
-    part-end (c .before .loop .x) (c .before .before .before .before .before .args .at) (c .before .loop .i) u _ (c .before .loop .inv .3) (omega (arith, c .before .loop .inv .1))
+returns c = let a = c .before .before .before .before .before .before .args in
+    let i = c .before .loop .inv in
+    (part-end (c .before .loop .x) (a .at) (c .before .loop .i) (take (a .count) (drop (a .from) (a .src .now))) _ (i .4) (omega (arith, i .1)), (i .1, i .2))
 
 pub copy-part-spec : {M : Type 1} → statement M
 copy-part-spec =
@@ -59,7 +67,8 @@ copy-part-spec =
     (tie.spec
     Inv-loop
     μ-loop
-    has-requires
+    less-requires
+    smaller-requires
     loop-holds
     add-put
     add-get

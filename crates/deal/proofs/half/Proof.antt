@@ -1,4 +1,5 @@
--- `deal::half` meets its contract: writes one half of the entry at word a of src: its word i becomes x, its child q.
+-- `deal::half` meets its contract: writes one half of the entry at word a of src: its word i becomes x, its child q. How many words of it
+-- src has.
 use mathlib.Core.Path.{_∙_}
 use borrow.Author.Needs.{needs}
 use Rattle.deal.proofs.half.Statement.{statement}
@@ -26,7 +27,7 @@ same-length : tie.Need-same-length
 same-length c = search needs
 
 returns : tie.Need-returns
-returns c = c .before .before .put2 .ensures ∙ (rw (c .before .before .before .before .before .before .put .ensures, c .before .before .before .before .before .before .before .before .before .before .copy-part .ensures))
+returns c = (c .before .before .put2 .ensures ∙ (rw (c .before .before .before .before .before .before .put .ensures, c .before .before .before .before .before .before .before .before .before .before .copy-part .ensures .0)), c .before .before .before .before .before .before .before .before .before .before .copy-part .ensures .1)
 
 pub half-spec : {M : Type 1} → statement M
 half-spec =

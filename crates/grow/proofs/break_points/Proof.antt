@@ -2,7 +2,8 @@
 -- from domain e on.
 use Prim.Native.Nat.{_+_}
 use native.Mathlib.Nat.{mod-lt}
-use Rattle.grow.proofs.Laws.{points-nowhere, points-broken}
+use mathlib.Core.Path.{sym, _∙_}
+use Rattle.grow.proofs.Laws.{points-choose, points-nowhere, points-broken}
 use borrow.Author.Needs.{needs}
 use native.Mathlib.Omega.{arith}
 use Rattle.grow.proofs.break_points.Statement.{statement}
@@ -15,7 +16,8 @@ choose-requires : tie.Need-choose-requires
 choose-requires c κs = search needs
 
 returns : tie.Need-returns
-returns c = (points-nowhere _ _ 0 0 _ _ _ _ _ (c .before .choose .result) (c .before .choose .ensures .0) (c .if1 .left), search needs)
+returns c = let a = c .before .before .before .before .args in
+    (points-nowhere _ _ 0 0 _ _ _ _ _ (c .before .choose .result) (c .before .choose .ensures .0 ∙ sym (points-choose (a .f .domains) (a .e) (a .m) (a .src .now))) (c .if1 .left), search needs)
 
 add-part-points : tie.Need-add-part-points
 add-part-points c = search needs
@@ -30,7 +32,8 @@ same-length : tie.Need-same-length
 same-length c = search needs
 
 returns-2 : tie.Need-returns-2
-returns-2 c = (points-broken _ _ 0 0 _ _ _ _ _ (c .before .before .before .before .before .before .choose .result) (c .before .before .before .before .before .before .choose .ensures .0) (c .before .before .before .before .before .if1 .taken) _ _ (c .before .before .part-points .ensures .0), search needs)
+returns-2 c = let a = c .before .before .before .before .before .before .before .before .before .args in
+    (points-broken _ _ 0 0 _ _ _ _ _ (c .before .before .before .before .before .before .choose .result) (c .before .before .before .before .before .before .choose .ensures .0 ∙ sym (points-choose (a .f .domains) (a .e) (a .m) (a .src .now))) (c .before .before .before .before .before .if1 .taken) _ _ (c .before .before .part-points .ensures .0), search needs)
 
 pub break-points-spec : {M : Type 1} → statement M
 break-points-spec =

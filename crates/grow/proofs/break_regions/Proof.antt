@@ -1,7 +1,8 @@
 -- `grow::break_regions` meets its contract: the m entries of src likewise; their children stand `level` levels above the point pages.
 use Prim.Native.Nat.{_+_}
 use native.Mathlib.Nat.{mod-lt}
-use Rattle.grow.proofs.Laws.{regions-nowhere, regions-broken}
+use mathlib.Core.Path.{sym, _∙_}
+use Rattle.grow.proofs.Laws.{regions-choose, regions-nowhere, regions-broken}
 use borrow.Author.Needs.{needs}
 use native.Mathlib.Omega.{arith}
 use Rattle.grow.proofs.break_regions.Statement.{statement}
@@ -17,7 +18,8 @@ choose-requires : tie.Need-choose-requires
 choose-requires c κs = search needs
 
 returns : tie.Need-returns
-returns c = (regions-nowhere _ _ 0 0 _ _ _ _ _ (c .before .choose .result) (c .before .choose .ensures .0) (c .before .before .before .before .args .level) (c .if1 .left), search needs)
+returns c = let a = c .before .before .before .before .args in
+    (regions-nowhere _ _ 0 0 _ _ _ _ _ (c .before .choose .result) (c .before .choose .ensures .0 ∙ sym (regions-choose (a .f .domains) (a .e) (a .m) (a .src .now) (c .before .before .before .before .pre .1 .1 .0))) (a .level) (c .if1 .left), search needs)
 
 add-part-regions : tie.Need-add-part-regions
 add-part-regions c = search needs
@@ -32,7 +34,8 @@ same-length : tie.Need-same-length
 same-length c = search needs
 
 returns-2 : tie.Need-returns-2
-returns-2 c = (regions-broken _ _ 0 0 _ _ _ _ _ (c .before .before .before .before .before .before .choose .result) (c .before .before .before .before .before .before .choose .ensures .0) (c .before .before .before .before .before .before .before .before .before .args .level) (c .before .before .before .before .before .if1 .taken) _ _ (c .before .before .part-regions .ensures .0), search needs)
+returns-2 c = let a = c .before .before .before .before .before .before .before .before .before .args in
+    (regions-broken _ _ 0 0 _ _ _ _ _ (c .before .before .before .before .before .before .choose .result) (c .before .before .before .before .before .before .choose .ensures .0 ∙ sym (regions-choose (a .f .domains) (a .e) (a .m) (a .src .now) (c .before .before .before .before .before .before .before .before .before .pre .1 .1 .0))) (a .level) (c .before .before .before .before .before .if1 .taken) _ _ (c .before .before .part-regions .ensures .0), search needs)
 
 pub break-regions-spec : {M : Type 1} → statement M
 break-regions-spec =

@@ -33,7 +33,7 @@ same-length c = search needs
 
 returns : tie.Need-returns
 returns c = let a = (c .before .before .before .before .before .before .before .before .before .before .before .before .args) in
-    c .before .before .copy-part2 .ensures ∙ (rw (c .before .before .before .before .before .before .before .copy-part .ensures, c .before .before .before .word .ensures .0) (ap (λ u. sets (sets (a .over .now) 0 (page 32 (a .pool .now) (a .j))) (4 + word 32 (a .pool .now) (a .j) 1 * a .wd) u) (take-all 9 (a .entry .now) (omega arith))))
+    c .before .before .copy-part2 .ensures .0 ∙ (rw (c .before .before .before .before .before .before .before .copy-part .ensures .0, c .before .before .before .word .ensures .0) (ap (λ u. sets (sets (a .over .now) 0 (page 32 (a .pool .now) (a .j))) (4 + word 32 (a .pool .now) (a .j) 1 * a .wd) u) (take-all 9 (a .entry .now) (omega arith))))
 
 pub copy-overfull-spec : {M : Type 1} → statement M
 copy-overfull-spec =

@@ -2,11 +2,7 @@
 -- was full.
 use Prim.Native.Nat.{_+_}
 use lib.ListN.{take}
-use Rattle.steps.specs.Grow.{breakPoints}
-use Rattle.kdb.specs.Pages.{regionsPer, pointsPer}
-use Rattle.kdb.specs.Cut.{choose}
-use Rattle.cut.specs.Keys.{keysIn}
-use Rattle.grow.proofs.Laws.{few-points, points-room, points-full, points-over, over-words}
+use Rattle.grow.proofs.Laws.{few-points, settle-room, settle-full, settle-over, over-words}
 use mathlib.Core.Path.{sym, ap, _∙_}
 use lib.Seq.{length-take-le}
 use borrow.Author.Needs.{needs}
@@ -27,9 +23,7 @@ same-length : tie.Need-same-length
 same-length c = search needs
 
 returns : tie.Need-returns
-returns c = let a = (c .before .before .before .before .before .before .before .before .args) in
-    let p = c .before .before .before .before .before .points-per .ensures in
-    (rw (c .before .before .append .ensures) (points-room (a .f .pages) (a .f .domains) (a .m) (a .e) (a .entry .now) (a .j) (a .pool .now) (omega (arith, p, c .before .before .before .before .if1 .taken)) (omega arith)), search needs)
+returns c = (rw (c .before .before .append .ensures) (settle-room _ _ _ _ _ _ _ (omega (arith, c .before .before .before .before .before .points-per .ensures, c .before .before .before .before .if1 .taken)) (omega arith)), search needs)
 
 slice-aggregate-copy-overfull : tie.Need-slice-aggregate-copy-overfull
 slice-aggregate-copy-overfull c = search needs
@@ -60,16 +54,12 @@ same-length-2 : tie.Need-same-length-2
 same-length-2 c = search needs
 
 returns-2 : tie.Need-returns-2
-returns-2 c = let a = (c .before .before .before .before .before .before .before .before .before .before .before .before .before .before .args) in
-    let o = c .before .before .before .before .before .before .copy-overfull .ensures in
-    let w = over-words (a .f .domains + 1) (a .pool .now) (a .j) (a .entry .now) (33 + a .f .domains) (omega arith) (omega arith) in
-    let s = ap (λ l. breakPoints 32 (a .f .pages) (a .f .domains) (regionsPer 32 (a .f .domains)) (pointsPer 32 (a .f .domains)) (choose (a .f .domains) (a .f .domains) (a .e) (keysIn (a .f .domains) (a .f .domains + 1) (a .m + 1) l)) l (a .m + 1) (a .j) (a .pool .now)) (ap (take (33 + a .f .domains)) o ∙ w) in
-    (c .before .before .break-points .ensures .0 ∙ s ∙ points-full (a .f .pages) (a .f .domains) (a .m) (a .e) (a .entry .now) (a .j) (a .pool .now) (c .before .before .before .before .before .before .before .before .before .if2 .taken ∙ c .before .before .before .before .before .before .before .before .before .before .before .points-per .ensures), c .before .before .break-points .ensures .1)
+returns-2 c = let a = c .before .before .before .before .before .before .before .before .before .before .before .before .before .before .args in
+    let o = ap (take (33 + a .f .domains)) (c .before .before .before .before .before .before .copy-overfull .ensures) ∙ over-words (a .f .domains + 1) (a .pool .now) (a .j) (a .entry .now) (33 + a .f .domains) (omega arith) (omega arith) in
+    (c .before .before .break-points .ensures .0 ∙ settle-full _ _ _ _ _ _ _ (c .before .before .before .before .before .before .before .before .before .if2 .taken ∙ c .before .before .before .before .before .before .before .before .before .before .before .points-per .ensures) _ o, c .before .before .break-points .ensures .1)
 
 returns-3 : tie.Need-returns-3
-returns-3 c = let a = (c .before .before .before .before .before .args) in
-    let p = c .before .before .points-per .ensures in
-    (points-over (a .f .pages) (a .f .domains) (a .m) (a .e) (a .entry .now) (a .j) (a .pool .now) (omega (arith, p, c .before .if1 .left)) (λ z. c .if2 .left (z ∙ sym p)), search needs)
+returns-3 c = (settle-over _ _ _ _ _ _ _ (omega (arith, c .before .before .points-per .ensures, c .before .if1 .left)) (λ z. c .if2 .left (z ∙ sym (c .before .before .points-per .ensures))), search needs)
 
 pub settle-points-spec : {M : Type 1} → statement M
 settle-points-spec =

@@ -1,8 +1,8 @@
 -- `grow::widen` meets its contract: region page j, whose child in the entry at word a broke along x in domain d with r as its right page,
 -- takes both halves.
-use Prim.Native.Nat.{_+_, _*_}
+use Prim.Native.Nat.{_+_}
 use lib.Seq.{length-take-le}
-use lib.ListN.{take, drop, set, length-take, replicate}
+use lib.ListN.{take, set, replicate}
 use Rattle.steps.specs.Machine.{word}
 use Rattle.grow.specs.Grown.{settleRegions}
 use mathlib.Core.Path.{sym, ap, ap₂, _∙_}
@@ -25,15 +25,6 @@ slice-aggregate-half c = search needs
 half-requires : tie.Need-half-requires
 half-requires c κs = search needs
 
-mul-has : tie.Need-mul-has
-mul-has c = search needs
-
-add-has : tie.Need-add-has
-add-has c = search needs
-
-has-requires : tie.Need-has-requires
-has-requires c κs = search needs
-
 add-put : tie.Need-add-put
 add-put c = search needs
 
@@ -44,24 +35,21 @@ put-requires : tie.Need-put-requires
 put-requires c κs = search needs
 
 array-share-prefix-entry : tie.Need-array-share-prefix-entry
-array-share-prefix-entry c = let a = (c .before .before .before .before .before .before .before .before .before .before .before .before .before .before .before .before .args) in
-    omega (arith, c .before .before .before .before .before .has .ensures, length-take (2 * a .f .domains + 1) (drop (a .a) (a .pool .now)), c .before .before .before .before .before .before .before .before .half .kept .0, c .before .before .before .before .before .before .before .before .before .before .before .before .before .before .before .before .pre .0 .few)
+array-share-prefix-entry c = search needs
 
 slice-aggregate-settle-regions : tie.Need-slice-aggregate-settle-regions
-slice-aggregate-settle-regions c = let a = (c .before .before .before .before .before .before .before .before .before .before .before .before .before .before .before .before .before .args) in
-    sym (length-take-le _ _ (omega (arith, c .before .before .before .before .before .before .has .ensures, length-take (2 * a .f .domains + 1) (drop (a .a) (a .pool .now)), c .before .before .before .before .before .before .before .before .before .half .kept .0, c .before .before .before .before .before .before .before .before .before .before .before .before .before .before .before .before .before .pre .0 .few)))
+slice-aggregate-settle-regions c = sym (length-take-le _ _ (omega (arith, c .before .before .before .before .before .before .before .half .ensures .1, c .before .before .before .before .before .before .before .half .kept .0, c .before .before .before .before .before .before .before .before .before .before .before .before .before .before .before .pre .0 .few)))
 
 settle-regions-requires : tie.Need-settle-regions-requires
-settle-regions-requires c κs = let a = (c .before .before .before .before .before .before .before .before .before .before .before .before .before .before .before .before .before .args) in
-    search (needs, length-take (c .before .before .before .before .before .before .has .result) (c .before .before .before .before .before .before .before .before .before .half .last .0), length-take (2 * a .f .domains + 1) (drop (a .a) (a .pool .now)))
+settle-regions-requires c κs = search (needs, slice-aggregate-settle-regions c)
 
 same-length : tie.Need-same-length
 same-length c = search needs
 
 returns : tie.Need-returns
-returns c = let a = (c .before .before .before .before .before .before .before .before .before .before .before .before .before .before .before .before .before .before .before .before .args) in
-    let u = ap₂ take (c .before .before .before .before .before .before .before .before .before .has .ensures) (c .before .before .before .before .before .before .before .before .before .before .before .before .half .ensures) ∙ half-take (a .f .domains) (a .pool .now) (a .a) (a .d) (a .x) (a .r) (replicate 9 0) (omega (arith, c .before .before .before .before .before .before .before .before .before .before .before .before .before .before .before .before .before .before .before .before .pre .0 .few)) in
-    (c .before .before .settle-regions .ensures .0 ∙ (rw (c .before .before .before .before .before .before .before .put .ensures, c .before .before .before .before .before .before .before .before .before .before .before .before .before .before .before .before .before .word .ensures .0, c .before .before .before .before .before .before .before .before .before .before .before .before .before .before .before .word2 .ensures .0) (ap (λ l. settleRegions (a .f .pages) (a .f .domains) (a .level) (word 32 (a .pool .now) (a .j) 1) (word 32 (a .pool .now) (a .j) 2) l (a .j) (set (a .pool .now) (a .a + a .f .domains + a .d) (a .x))) u)) ∙ widen-is (a .f .pages) (a .f .domains) (a .level) (a .d) (a .x) (a .r) (a .a) (a .j) (a .pool .now), c .before .before .settle-regions .ensures .1)
+returns c = let a = (c .before .before .before .before .before .before .before .before .before .before .before .before .before .before .before .before .before .before .args) in
+    let u = ap₂ take (c .before .before .before .before .before .before .before .before .before .before .half .ensures .1 .0) (c .before .before .before .before .before .before .before .before .before .before .half .ensures .0) ∙ half-take (a .f .domains) (a .pool .now) (a .a) (a .d) (a .x) (a .r) (replicate 9 0) (omega (arith, c .before .before .before .before .before .before .before .before .before .before .before .before .before .before .before .before .before .before .pre .0 .few)) in
+    (c .before .before .settle-regions .ensures .0 ∙ (rw (c .before .before .before .before .before .before .before .put .ensures, c .before .before .before .before .before .before .before .before .before .before .before .before .before .before .before .word .ensures .0, c .before .before .before .before .before .before .before .before .before .before .before .before .before .word2 .ensures .0) (ap (λ l. settleRegions (a .f .pages) (a .f .domains) (a .level) (word 32 (a .pool .now) (a .j) 1) (word 32 (a .pool .now) (a .j) 2) l (a .j) (set (a .pool .now) (a .a + a .f .domains + a .d) (a .x))) u)) ∙ widen-is (a .f .pages) (a .f .domains) (a .level) (a .d) (a .x) (a .r) (a .a) (a .j) (a .pool .now), c .before .before .settle-regions .ensures .1)
 
 pub widen-spec : {M : Type 1} → statement M
 widen-spec =
@@ -71,9 +59,6 @@ widen-spec =
     word-requires-2
     slice-aggregate-half
     half-requires
-    mul-has
-    add-has
-    has-requires
     add-put
     add-put-2
     put-requires

@@ -18,7 +18,7 @@ same-length c = search needs
 
 returns : tie.Need-returns
 returns c = let a = (c .before .before .before .before .before .before .before .before .before .before .args) in
-    c .before .before .put .ensures ∙ (rw (c .before .before .before .before .before .before .copy-part .ensures) (ap (λ u. set (sets (a .to .now) 0 u) (a .k) (a .location)) (take-all (a .k) (a .point .now) (omega arith))))
+    c .before .before .put .ensures ∙ (rw (c .before .before .before .before .before .before .copy-part .ensures .0) (ap (λ u. set (sets (a .to .now) 0 u) (a .k) (a .location)) (take-all (a .k) (a .point .now) (omega arith))))
 
 pub write-record-spec : {M : Type 1} → statement M
 write-record-spec = tie.close (tie.spec copy-part-requires put-requires same-length returns)
