@@ -1,22 +1,24 @@
 -- The loops over domains are the definitions' tests of regions, windows and keys.
-use mathlib.Core.Bool.{Bool, true, _&&_}
+use mathlib.Core.Bool.{Bool, true, false, _&&_}
 use mathlib.Core.List.{List}
 use mathlib.Core.Path.{_≡_, refl, sym, ap, ap₂, _∙_}
-use Prim.Native.Nat.{ℕ, zero, suc, _+_, _*_, _≤_, max}
+use Prim.Native.Nat.{ℕ, zero, suc, _+_, _*_, _<_, _≤_, max}
 use native.Mathlib.Omega.{arith}
 use native.Mathlib.Nat.{zero-add, add-zero}
+use native.Mathlib.Numerals.{add-one}
 use lib.Dec.{leb, ltb, eqb}
-use lib.ListN.{length, take, drop, getD, length-drop}
-use lib.Seq.{take-all}
+use lib.ListN.{length, take, drop, getD, length-drop, drop-of-length-le}
+use lib.Seq.{take-all, drop-cons, getD-take, getD-drop, length-take-le}
+use borrow.Author.Tests.{eq-eqb, ne-eqb}
 use Rattle.kdb.specs.Lists.{same}
 use Rattle.kdb.specs.Box.{sides, within, inWindow, meets}
 use Rattle.kdb.specs.Calls.{windowOf, ordered}
 use Rattle.kdb.proofs.Tests.{and-true, and-assoc}
 use Rattle.words.proofs.Loops.{keys-by}
-use Rattle.words.proofs.Slots.{keys-of}
+use Rattle.words.proofs.Slots.{key-from, keys-of}
 use Rattle.words.specs.Loops.{allBy, keysBy}
-use Rattle.words.specs.Words.{regionAt, keysOf, RegionIn, RecordIn}
-use Rattle.boxes.specs.Tests.{holdsAt, meetsAt, seenAt, sameAt, orderedAt}
+use Rattle.words.specs.Words.{keyAt, pointKey, regionAt, keysOf, RegionIn, RecordIn}
+use Rattle.boxes.specs.Tests.{holdsAt, meetsAt, seenAt, orderedAt}
 
 -- a loop over m domains from d on, by the functions that give the ends and the keys
 within-by : (m : ℕ) (l u x : ℕ → ℕ) (d : ℕ) (ok : Bool)
@@ -37,11 +39,6 @@ meets-by : (m : ℕ) (l u a b : ℕ → ℕ) (d : ℕ) (ok : Bool)
 unfolding allBy
 meets-by zero l u a b d ok = sym (and-true ok)
 meets-by (suc m) l u a b d ok = meets-by m l u a b (d + 1) (ok && (ltb (max (l d) (a d)) (u d) && leb (max (l d) (a d)) (b d))) ∙ and-assoc ok _ _
-
-same-by : (m : ℕ) (x y : ℕ → ℕ) (d : ℕ) (ok : Bool) → allBy m (λ n i. eqb (x i) (y i)) 1 d ok ≡ ok && same (keysBy m x d) (keysBy m y d)
-unfolding allBy
-same-by zero x y d ok = sym (and-true ok)
-same-by (suc m) x y d ok = same-by m x y (d + 1) (ok && eqb (x d) (y d)) ∙ and-assoc ok _ _
 
 ordered-by : (m : ℕ) (l u : ℕ → ℕ) (d : ℕ) (ok : Bool)
     → allBy m (λ n i. leb (l i) (u i)) 1 d ok ≡ ok && ordered (sides (keysBy m l d) (keysBy m u d))
@@ -79,6 +76,28 @@ module _ (k : ℕ) (v : List ℕ) (e : length v ≡ 2 * k) where
   pub ordered-window : allBy k (orderedAt v k) 1 0 true ≡ ordered (windowOf k v)
   ordered-window = ordered-by k _ _ 0 true ∙ ap ordered window
 
-pub same-keys : (w : List ℕ) (k j s : ℕ) → RecordIn w k j s → (p : List ℕ) → length p ≡ k
-    → allBy k (sameAt w k j s p) 1 0 true ≡ same p (keysOf k w j s)
-same-keys w k j s g p e = same-by k _ _ 0 true ∙ ap₂ same (own k p e) (keys-of k w j s g)
+-- the keys p and those of a record: the test of them from domain d on is v
+pub record Alike (w : List ℕ) (k j s : ℕ) (p : List ℕ) (d : ℕ) (v : Bool) : Type 0 where
+  pub held : RecordIn w k j s
+  pub long : length p ≡ k
+  pub rest : same (drop d p) (drop d (keysOf k w j s)) ≡ v
+
+module _ (w : List ℕ) (k j s : ℕ) (p : List ℕ) (d : ℕ) (v : Bool) (m : Alike w k j s p d v) where
+  kept : length (keysOf k w j s) ≡ k
+  kept = length-take-le k (drop (keyAt k j s 0) w) (omega (arith, length-drop (keyAt k j s 0) w, m .held .ends))
+
+  pub same-end : k ≤ d → true ≡ v
+  same-end h = rw (drop-of-length-le p {i = d} (omega (arith, m .long)), drop-of-length-le (keysOf k w j s) {i = d} (omega (arith, kept))) at (m .rest)
+
+  module _ (l : d < k) where
+    key-here : getD (keysOf k w j s) d 0 ≡ pointKey w k j s d
+    key-here = getD-take k (drop (keyAt k j s 0) w) d 0 l ∙ getD-drop (keyAt k j s 0) w d 0 ∙ ap (λ (i : ℕ). getD w i 0) (key-from k j s d)
+
+    turn : eqb (getD p d 0) (pointKey w k j s d) && same (drop (d + 1) p) (drop (d + 1) (keysOf k w j s)) ≡ v
+    turn = rw (add-one d) (rw (drop-cons p d 0 (omega (arith, m .long)), drop-cons (keysOf k w j s) d 0 (omega (arith, kept)), key-here) at (m .rest))
+
+    pub same-stop : (getD p d 0 ≡ pointKey w k j s d → ⊥) → false ≡ v
+    same-stop t = rw (ne-eqb _ _ t) at turn
+
+    pub same-next : getD p d 0 ≡ pointKey w k j s d → Alike w k j s p (d + 1) v
+    same-next t = record { held = m .held; long = m .long; rest = rw (eq-eqb _ _ t) at turn }

@@ -66,13 +66,14 @@ pub fn same_keys(pool: &[u32], f: Form, j: usize, slot: usize, point: &[u32]) ->
     ensures { λ r. ⌜ r ≡ same (now (point .entry)) (keysOf (f .domains) (now (pool .entry)) j slot) ⌝ }
 {
     let k = domains_of(f);
-    let mut ok = true;
     let mut d: usize = 0;
     while d < k {
-        ok = ok & (read(point, d) == point_key(pool, f, j, slot, d));
+        if read(point, d) != point_key(pool, f, j, slot, d) {
+            return false;
+        }
         d += 1;
     }
-    ok
+    true
 }
 
 // No lower end of the window is above its upper end.

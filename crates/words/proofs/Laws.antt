@@ -1,25 +1,25 @@
 -- The length of a pool, its header, and stores of a whole buffer, as code finds them.
-use mathlib.Core.Bool.{Bool, true, false, _&&_, _||_, not}
+use mathlib.Core.Bool.{Bool, true, false, _&&_, Bool·beq}
 use mathlib.Core.List.{List, [], _∷_}
 use mathlib.Core.Path.{_≡_, refl, sym, ap, _∙_}
-use Prim.Native.Nat.{ℕ, zero, suc, _+_, _-_, _*_, _%_, _<_, _≤_}
+use Prim.Native.Nat.{ℕ, zero, suc, _+_, _-_, _*_, _<_, _≤_}
 use native.Mathlib.Omega.{arith}
+use native.Mathlib.Numerals.{add-one}
 use native.Mathlib.Nat.{zero-add, div-le-self}
-use lib.Dec.{eqb, leb, ltb}
-use lib.ListN.{length, drop, getD, replicate, length-replicate}
-use lib.Seq.{sets, take-length}
-use borrow.Author.Tests.{eqb-true, leb-true}
+use lib.Dec.{eqb, leb, ltb, leb·suc-suc}
+use lib.ListN.{length, drop, getD, replicate, length-replicate, drop-of-length-le}
+use lib.Seq.{sets, drop-cons}
+use borrow.Author.Tests.{eqb-true, lt-ltb, le-ltb}
 use Rattle.kdb.specs.Lists.{bit, every}
 use Rattle.kdb.specs.Pages.{page}
-use Rattle.kdb.specs.Pool.{domains, pagesIn, goodLength, goodHeader, GoodLength}
+use Rattle.kdb.specs.Pool.{pagesIn, goodLength, goodHeader, GoodLength}
 use Rattle.kdb.specs.Calls.{L, finite}
 use Rattle.kdb.specs.declared.Form.{Form}
 use Rattle.kdb.specs.Box.{∞}
-use Rattle.kdb.proofs.Tests.{and-t, is-true, of-true}
+use Rattle.kdb.proofs.Tests.{is-true, of-true}
 use Rattle.kdb.proofs.Stores.{sets-whole}
 use Rattle.kdb.proofs.Pool.{length-iff, header-iff}
 use Rattle.kdb.proofs.Words.{page-rest}
-use Rattle.words.specs.Loops.{allBy}
 use Rattle.words.specs.Words.{pageCount, formOf, Formed, Fit, allZero, capacityOf}
 use Rattle.words.proofs.Loops.{keys-by, every-by}
 use Rattle.words.proofs.Table.{at₂}
@@ -52,11 +52,14 @@ count-some w n e z = go (goodLength L w) refl
     go true t = (t, e ∙ rw t)
     go false t = absurd (z (e ∙ rw t))
 
-pub both : (a b : Bool) → (a && b) || (not a && not b) ≡ eqb (bit a) (bit b)
+pub both : (a b : Bool) → Bool·beq a b ≡ eqb (bit a) (bit b)
 both true true = refl
 both true false = refl
 both false true = refl
 both false false = refl
+
+pub below : (l n : ℕ) → 1 ≤ n → ltb l n ≡ leb l (n - 1)
+below l n h = let q : n ≡ suc (n - 1) = omega arith in ap (ltb l) q ∙ leb·suc-suc l (n - 1)
 
 pub zero-rest : (w : List ℕ) → GoodLength L w → allZero w 5 27 ≡ every (eqb 0) (drop 5 (page L w 0))
 zero-rest w g =
@@ -64,10 +67,20 @@ zero-rest w g =
     every-by (eqb 0) 27 (λ i. getD w i 0) 5 true
     ∙ ap (every (eqb 0)) (keys-by 27 0 5 w (λ i. getD w i 0) (λ d. ap (λ (i : ℕ). getD w i 0) (sym (zero-add d))) (omega (arith, g .least)) ∙ sym (page-rest L w 0 5))
 
-pub all-finite : (x : List ℕ) → allBy (length x) (λ n i. ltb (getD x i 0) ∞) 1 0 true ≡ finite x
-all-finite x =
-    every-by (λ v. ltb v ∞) (length x) (λ i. getD x i 0) 0 true
-    ∙ ap finite (keys-by (length x) 0 0 x (λ i. getD x i 0) (λ d. ap (λ (i : ℕ). getD x i 0) (sym (zero-add d))) (omega arith) ∙ take-length x)
+-- the test of the words from i on is v
+module _ (x : List ℕ) (i : ℕ) (v : Bool) (m : finite (drop i x) ≡ v) where
+  pub finite-end : length x ≤ i → true ≡ v
+  finite-end h = rw (drop-of-length-le x {i = i} h) at m
+
+  module _ (l : i < length x) where
+    turn : ltb (getD x i 0) ∞ && finite (drop (i + 1) x) ≡ v
+    turn = rw (add-one i) (rw (drop-cons x i 0 l) at m)
+
+    pub finite-stop : ∞ ≤ getD x i 0 → false ≡ v
+    finite-stop h = rw (le-ltb _ _ h) at turn
+
+    pub finite-next : getD x i 0 < ∞ → finite (drop (i + 1) x) ≡ v
+    finite-next h = rw (lt-ltb _ _ h) at turn
 
 -- a buffer cleared whole
 pub cleared : (x : List ℕ) → sets x 0 (replicate (length x) 0) ≡ replicate (length x) 0

@@ -10,7 +10,7 @@ use Rattle.kdb.specs.Calls.{L}
 use Rattle.kdb.specs.declared.Form.{Form}
 use Rattle.kdb.proofs.Words.{rec-turn}
 use Rattle.words.specs.Loops.{keysBy}
-use Rattle.words.specs.Words.{keyAt, locationAt, pointKey, pointLocation, keysOf, recordsFrom, Formed, RecordIn}
+use Rattle.words.specs.Words.{keyAt, pointKey, pointLocation, keysOf, recordsFrom, Formed, RecordIn}
 use Rattle.words.proofs.Loops.{keys-by}
 
 -- a slot's place is not far
@@ -18,7 +18,7 @@ pub slot-near : (e k : ℕ) → k ≤ 4 → e * (k + 1) ≤ e * 5
 slot-near e k h = mul-le-mul-left e (omega arith)
 
 -- the keys one behind the other, then the location
-key-from : (k j e d : ℕ) → keyAt k j e 0 + d ≡ keyAt k j e d
+pub key-from : (k j e d : ℕ) → keyAt k j e 0 + d ≡ keyAt k j e d
 key-from k j e d = omega arith
 
 pub keys-of : (k : ℕ) (w : List ℕ) (j e : ℕ) → RecordIn w k j e → keysBy k (pointKey w k j e) 0 ≡ keysOf k w j e

@@ -123,8 +123,8 @@ pub fn good_header(pool: &[u32], n: usize) -> bool
         & (k <= 4)
         & (read(pool, 1) == n)
         & (root < n)
-        & (levels <= n - 1)
-        & (((root == 0) & (levels == 0)) | ((root != 0) & (levels != 0)))
+        & (levels < n)
+        & ((root == 0) == (levels == 0))
         & zeros_in(pool, 5, 32)
 }
 
@@ -132,13 +132,14 @@ pub fn good_header(pool: &[u32], n: usize) -> bool
 pub fn all_finite(x: &[u32]) -> bool
     ensures { λ r. ⌜ r ≡ finite (now (x .entry)) ⌝ }
 {
-    let mut ok = true;
     let mut i: usize = 0;
     while i < x.len() {
-        ok = ok & (read(x, i) < 4294967295);
+        if read(x, i) == 4294967295 {
+            return false;
+        }
         i += 1;
     }
-    ok
+    true
 }
 
 // R for kind 0 and P for kind 1.

@@ -1,5 +1,5 @@
 -- `words::good_header` meets its contract: the tests of the header's words are the definition's.
-use Rattle.words.proofs.Laws.{both, zero-rest}
+use Rattle.words.proofs.Laws.{both, below, zero-rest}
 use Rattle.kdb.specs.Pool.{goodHeader}
 use borrow.Author.Needs.{needs}
 use native.Mathlib.Omega.{arith}
@@ -18,15 +18,12 @@ read-requires-3 c κs = search needs
 read-requires-4 : tie.Need-read-requires-4
 read-requires-4 c κs = search needs
 
-sub-result : tie.Need-sub-result
-sub-result c = let p = c .before .before .before .before .before .pre in omega (arith, p .0 .least, p .1)
-
 zeros-in-requires : tie.Need-zeros-in-requires
 zeros-in-requires c κs = search needs
 
 returns : tie.Need-returns
 unfolding goodHeader
-returns c = let p = c .before .before .before .before .before .before .pre in rw (← p .1, ← zero-rest _ (p .0), ← both) (cc)
+returns c = let p = c .before .before .before .before .before .before .pre in rw (← p .1, ← zero-rest _ (p .0), ← both, ← below _ (c .before .before .before .before .before .before .args .n) (omega (arith, p .0 .least, p .1))) (cc)
 
 pub good-header-spec : {M : Type 1} → statement M
 good-header-spec =
@@ -36,6 +33,5 @@ good-header-spec =
     read-requires-2
     read-requires-3
     read-requires-4
-    sub-result
     zeros-in-requires
     returns)
