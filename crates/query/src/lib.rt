@@ -10,6 +10,7 @@ use walk::Sought;
 use walk::list_walk;
 use walk::search;
 use words::clear;
+use words::domains_of;
 use words::form_of;
 ghost use mathlib.Core.Path.{_≡_};
 ghost use mathlib.Core.Bool.{cond};
@@ -87,7 +88,7 @@ pub fn list(pool: &[u32], window: &[u32], answer: &mut [u32]) -> Listed
         Finished::Refused(r) => return Listed::Refused(r),
         Finished::Done => {}
     }
-    if !ordered_window(window, f.domains) {
+    if !ordered_window(window, domains_of(f)) {
         return Listed::Refused(Refusal::WindowOrder);
     }
     list_within(pool, f, window, answer)
