@@ -9,7 +9,7 @@ use words::read;
 use words::zeros;
 ghost use mathlib.Core.Path.{_≡_};
 ghost use mathlib.Core.Bool.{true, false};
-ghost use Prim.Native.Nat.{_+_, _*_, _-_, _≤_, _<_};
+ghost use Prim.Native.Nat.{_+_, _*_, _-_, _<_};
 ghost use Rattle.kdb.specs.Pool.{goodHeader};
 ghost use Rattle.kdb.specs.Print.{sound};
 ghost use Rattle.kdb.specs.Calls.{L};

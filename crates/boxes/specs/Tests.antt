@@ -4,7 +4,6 @@ use mathlib.Core.List.{List}
 use Prim.Native.Nat.{ℕ, _+_, max}
 use lib.Dec.{leb, ltb}
 use lib.ListN.{getD}
-use Rattle.words.specs.Loops.{allBy}
 use Rattle.words.specs.Words.{pointKey}
 
 -- lower ≤ key < upper

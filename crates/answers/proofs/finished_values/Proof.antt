@@ -3,10 +3,6 @@ use Rattle.answers.proofs.Answers.{none-spoken, refused-spoken}
 use borrow.Author.Needs.{needs}
 use Rattle.answers.proofs.finished_values.Statement.{statement}
 use Rattle.answers.proofs.finished_values.Tie as tie
-use Rattle.answers.proofs.finished_values.Reads as reads
-use Rattle.answers.proofs.finished_values.Lts as lts
-use Rattle.answers.proofs.refused.Reads as refused-reads
-use Rattle.opening.proofs.number.Reads as number-reads
 
 enum-told : tie.Need-enum-told
 enum-told c = search needs

@@ -3,9 +3,6 @@ use Rattle.answers.proofs.Answers.{ff}
 use borrow.Author.Needs.{needs}
 use Rattle.answers.proofs.no_frame.Statement.{statement}
 use Rattle.answers.proofs.no_frame.Tie as tie
-use Rattle.answers.proofs.no_frame.Reads as reads
-use Rattle.answers.proofs.no_frame.Lts as lts
-use Rattle.answers.proofs.refuse.Reads as refuse-reads
 
 refuse-requires : tie.Need-refuse-requires
 refuse-requires c κs = search needs

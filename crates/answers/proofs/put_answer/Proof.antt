@@ -4,12 +4,6 @@ use borrow.Author.Needs.{needs}
 use native.Mathlib.Omega.{arith}
 use Rattle.answers.proofs.put_answer.Statement.{statement}
 use Rattle.answers.proofs.put_answer.Tie as tie
-use Rattle.answers.proofs.put_answer.Reads as reads
-use Rattle.answers.proofs.put_answer.Lts as lts
-use Rattle.text.proofs.put.Reads as put-reads
-use Rattle.text.proofs.put_hex.Reads as put-hex-reads
-use Rattle.text.proofs.put_value.Reads as put-value-reads
-use Rattle.text.proofs.put_words.Reads as put-words-reads
 
 put-hex-requires : tie.Need-put-hex-requires
 put-hex-requires c κs = search needs

@@ -2,10 +2,6 @@
 use borrow.Author.Needs.{needs}
 use Rattle.answers.proofs.refuse.Statement.{statement}
 use Rattle.answers.proofs.refuse.Tie as tie
-use Rattle.answers.proofs.refuse.Reads as reads
-use Rattle.answers.proofs.refuse.Lts as lts
-use Rattle.answers.proofs.put_answer.Reads as put-answer-reads
-use Rattle.answers.proofs.refused.Reads as refused-reads
 
 refused-requires : tie.Need-refused-requires
 refused-requires c κs = search needs

@@ -3,10 +3,6 @@ use Rattle.answers.proofs.Answers.{one-spoken, refused-spoken}
 use borrow.Author.Needs.{needs}
 use Rattle.answers.proofs.removed_values.Statement.{statement}
 use Rattle.answers.proofs.removed_values.Tie as tie
-use Rattle.answers.proofs.removed_values.Reads as reads
-use Rattle.answers.proofs.removed_values.Lts as lts
-use Rattle.answers.proofs.refused.Reads as refused-reads
-use Rattle.opening.proofs.number.Reads as number-reads
 
 enum-known-f : tie.Need-enum-known-f
 enum-known-f c = search needs

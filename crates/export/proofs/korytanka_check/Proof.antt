@@ -3,10 +3,6 @@ use mathlib.Core.Path.{_∙_}
 use borrow.Author.Needs.{needs}
 use Rattle.export.proofs.korytanka_check.Statement.{statement}
 use Rattle.export.proofs.korytanka_check.Tie as tie
-use Rattle.export.proofs.korytanka_check.Reads as reads
-use Rattle.export.proofs.korytanka_check.Lts as lts
-use Rattle.export.proofs.told.Reads as told-reads
-use Rattle.query.proofs.check.Reads as check-reads
 
 check-requires : tie.Need-check-requires
 check-requires c κs = search needs

@@ -3,11 +3,6 @@ use Rattle.export.proofs.Crossing.{refused-two, promise-fits}
 use borrow.Author.Needs.{needs}
 use Rattle.export.proofs.korytanka_find.Statement.{statement}
 use Rattle.export.proofs.korytanka_find.Tie as tie
-use Rattle.export.proofs.korytanka_find.Reads as reads
-use Rattle.export.proofs.korytanka_find.Lts as lts
-use Rattle.export.proofs.not_found.Reads as not-found-reads
-use Rattle.opening.proofs.number.Reads as number-reads
-use Rattle.query.proofs.find.Reads as find-reads
 
 find-requires : tie.Need-find-requires
 find-requires c κs = search needs

@@ -3,10 +3,6 @@ use mathlib.Core.Path.{_∙_}
 use borrow.Author.Needs.{needs}
 use Rattle.export.proofs.korytanka_format.Statement.{statement}
 use Rattle.export.proofs.korytanka_format.Tie as tie
-use Rattle.export.proofs.korytanka_format.Reads as reads
-use Rattle.export.proofs.korytanka_format.Lts as lts
-use Rattle.export.proofs.told.Reads as told-reads
-use Rattle.index.proofs.format.Reads as format-reads
 
 format-requires : tie.Need-format-requires
 format-requires c κs = search needs

@@ -3,11 +3,6 @@ use Rattle.export.proofs.Crossing.{refused-two, promise-fits}
 use borrow.Author.Needs.{needs}
 use Rattle.export.proofs.korytanka_list.Statement.{statement}
 use Rattle.export.proofs.korytanka_list.Tie as tie
-use Rattle.export.proofs.korytanka_list.Reads as reads
-use Rattle.export.proofs.korytanka_list.Lts as lts
-use Rattle.export.proofs.not_listed.Reads as not-listed-reads
-use Rattle.opening.proofs.number.Reads as number-reads
-use Rattle.query.proofs.list.Reads as list-reads
 
 list-requires : tie.Need-list-requires
 list-requires c κs = search needs

@@ -3,10 +3,6 @@ use mathlib.Core.Path.{_∙_}
 use borrow.Author.Needs.{needs}
 use Rattle.export.proofs.korytanka_place.Statement.{statement}
 use Rattle.export.proofs.korytanka_place.Tie as tie
-use Rattle.export.proofs.korytanka_place.Reads as reads
-use Rattle.export.proofs.korytanka_place.Lts as lts
-use Rattle.export.proofs.told.Reads as told-reads
-use Rattle.index.proofs.place.Reads as place-reads
 
 place-requires : tie.Need-place-requires
 place-requires c κs = search needs

@@ -3,11 +3,6 @@ use Rattle.export.proofs.Crossing.{refused-one, promise-fits}
 use borrow.Author.Needs.{needs}
 use Rattle.export.proofs.korytanka_remove.Statement.{statement}
 use Rattle.export.proofs.korytanka_remove.Tie as tie
-use Rattle.export.proofs.korytanka_remove.Reads as reads
-use Rattle.export.proofs.korytanka_remove.Lts as lts
-use Rattle.export.proofs.not_removed.Reads as not-removed-reads
-use Rattle.index.proofs.remove.Reads as remove-reads
-use Rattle.opening.proofs.number.Reads as number-reads
 
 remove-requires : tie.Need-remove-requires
 remove-requires c κs = search needs

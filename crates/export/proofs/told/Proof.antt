@@ -5,9 +5,6 @@ use Rattle.export.proofs.Crossing.{told-refused}
 use borrow.Author.Needs.{needs}
 use Rattle.export.proofs.told.Statement.{statement}
 use Rattle.export.proofs.told.Tie as tie
-use Rattle.export.proofs.told.Reads as reads
-use Rattle.export.proofs.told.Lts as lts
-use Rattle.opening.proofs.number.Reads as number-reads
 
 enum-told : tie.Need-enum-told
 enum-told c = search needs

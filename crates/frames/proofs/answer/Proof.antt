@@ -4,10 +4,6 @@ use borrow.Author.Needs.{needs}
 use native.Mathlib.Omega.{arith}
 use Rattle.frames.proofs.answer.Statement.{statement}
 use Rattle.frames.proofs.answer.Tie as tie
-use Rattle.frames.proofs.answer.Reads as reads
-use Rattle.frames.proofs.answer.Lts as lts
-use Rattle.words.proofs.smaller.Reads as smaller-reads
-use Rattle.frames.proofs.line_answer.Reads as line-answer-reads
 
 smaller-requires : tie.Need-smaller-requires
 smaller-requires c κs = search needs

@@ -6,10 +6,6 @@ use borrow.Author.Needs.{needs}
 use native.Mathlib.Omega.{arith}
 use Rattle.frames.proofs.close.Statement.{statement}
 use Rattle.frames.proofs.close.Tie as tie
-use Rattle.frames.proofs.close.Reads as reads
-use Rattle.frames.proofs.close.Lts as lts
-use Rattle.frames.proofs.line_answer.Reads as line-answer-reads
-use Rattle.answers.proofs.no_frame.Reads as no-frame-reads
 
 no-frame-requires : tie.Need-no-frame-requires
 no-frame-requires c κs = search needs

@@ -2,10 +2,6 @@
 use borrow.Author.Needs.{needs}
 use Rattle.frames.proofs.feed.Statement.{statement}
 use Rattle.frames.proofs.feed.Tie as tie
-use Rattle.frames.proofs.feed.Reads as reads
-use Rattle.frames.proofs.feed.Lts as lts
-use Rattle.words.proofs.smaller.Reads as smaller-reads
-use Rattle.frames.proofs.feed_all.Reads as feed-all-reads
 
 smaller-requires : tie.Need-smaller-requires
 smaller-requires c κs = search needs

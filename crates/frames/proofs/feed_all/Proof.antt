@@ -8,9 +8,6 @@ use borrow.Author.Needs.{needs}
 use native.Mathlib.Omega.{arith}
 use Rattle.frames.proofs.feed_all.Statement.{statement}
 use Rattle.frames.proofs.feed_all.Tie as tie
-use Rattle.frames.proofs.feed_all.Reads as reads
-use Rattle.frames.proofs.feed_all.Lts as lts
-use Rattle.frames.proofs.step.Reads as step-reads
 
 abbrev Inv-loop : tie.InvT-loop
 Inv-loop piece line₀ pool₀ work₀ out₀ words₀ digits₀ at₀ i₀ line pool work out words digits at i = Looping (storeOf words₀ digits₀ line₀ pool₀ work₀) piece out₀ line pool work out words digits i at

@@ -4,10 +4,6 @@ use borrow.Author.Needs.{needs}
 use native.Mathlib.Omega.{arith}
 use Rattle.frames.proofs.finish.Statement.{statement}
 use Rattle.frames.proofs.finish.Tie as tie
-use Rattle.frames.proofs.finish.Reads as reads
-use Rattle.frames.proofs.finish.Lts as lts
-use Rattle.words.proofs.smaller.Reads as smaller-reads
-use Rattle.frames.proofs.close.Reads as close-reads
 
 smaller-requires : tie.Need-smaller-requires
 smaller-requires c κs = search needs

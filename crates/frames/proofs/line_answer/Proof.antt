@@ -10,11 +10,6 @@ use borrow.Author.Needs.{needs}
 use native.Mathlib.Omega.{arith}
 use Rattle.frames.proofs.line_answer.Statement.{statement}
 use Rattle.frames.proofs.line_answer.Tie as tie
-use Rattle.frames.proofs.line_answer.Reads as reads
-use Rattle.frames.proofs.line_answer.Lts as lts
-use Rattle.text.proofs.decode.Reads as decode-reads
-use Rattle.replies.proofs.frame.Reads as frame-reads
-use Rattle.answers.proofs.no_frame.Reads as no-frame-reads
 
 returns : tie.Need-returns
 returns c = let a = c .before .before .before .before .before .args in

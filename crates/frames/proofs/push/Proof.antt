@@ -5,8 +5,6 @@ use borrow.Author.Needs.{needs}
 use native.Mathlib.Omega.{arith}
 use Rattle.frames.proofs.push.Statement.{statement}
 use Rattle.frames.proofs.push.Tie as tie
-use Rattle.frames.proofs.push.Reads as reads
-use Rattle.frames.proofs.push.Lts as lts
 
 slice-write-line : tie.Need-slice-write-line
 slice-write-line c = search needs

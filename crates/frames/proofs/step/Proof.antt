@@ -5,10 +5,6 @@ use borrow.Author.Needs.{needs}
 use native.Mathlib.Omega.{arith}
 use Rattle.frames.proofs.step.Statement.{statement}
 use Rattle.frames.proofs.step.Tie as tie
-use Rattle.frames.proofs.step.Reads as reads
-use Rattle.frames.proofs.step.Lts as lts
-use Rattle.frames.proofs.close.Reads as close-reads
-use Rattle.frames.proofs.push.Reads as push-reads
 
 close-requires : tie.Need-close-requires
 close-requires c κs = search needs

@@ -6,9 +6,6 @@ use Rattle.index.proofs.Laws.{isHere, present-of}
 use borrow.Author.Needs.{needs}
 use Rattle.index.proofs.is_there.Statement.{statement}
 use Rattle.index.proofs.is_there.Tie as tie
-use Rattle.index.proofs.is_there.Reads as reads
-use Rattle.index.proofs.is_there.Lts as lts
-use Rattle.walk.proofs.search.Reads as search-reads
 
 search-requires : tie.Need-search-requires
 search-requires c κs = search needs

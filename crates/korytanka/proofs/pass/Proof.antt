@@ -10,10 +10,6 @@ use borrow.Author.Needs.{needs}
 use native.Mathlib.Omega.{arith}
 use Rattle.korytanka.proofs.pass.Statement.{statement}
 use Rattle.korytanka.proofs.pass.Tie as tie
-use Rattle.korytanka.proofs.pass.Reads as reads
-use Rattle.korytanka.proofs.pass.Lts as lts
-use Rattle.frames.proofs.feed.Reads as feed-reads
-use Rattle.io.proofs.write_all.Reads as write-all-reads
 
 abbrev Inv-loop : tie.InvT-loop
 Inv-loop piece line₀ pool₀ work₀ out₀ words₀ digits₀ at₀ line pool work out words digits at = (at ≤ length piece) × ((length out ≡ 65536) × ((words ≤ 16384) × (storeOf words digits line pool work ≡ kept (storeOf words₀ digits₀ line₀ pool₀ work₀) (take at piece))))

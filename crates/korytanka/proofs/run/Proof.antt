@@ -7,13 +7,6 @@ use borrow.Author.Needs.{needs}
 use native.Mathlib.Omega.{arith}
 use Rattle.korytanka.proofs.run.Statement.{statement}
 use Rattle.korytanka.proofs.run.Tie as tie
-use Rattle.korytanka.proofs.run.Reads as reads
-use Rattle.korytanka.proofs.run.Lts as lts
-use Rattle.frames.proofs.finish.Reads as finish-reads
-use Rattle.io.proofs.count.Reads as count-reads
-use Rattle.io.proofs.write_all.Reads as write-all-reads
-use Rattle.korytanka.proofs.pass.Reads as pass-reads
-use Rattle.libc.proofs.read.Reads as read-reads
 
 abbrev Inv-loop : tie.InvT-loop
 Inv-loop pool₀ work₀ line₀ input₀ out₀ words₀ digits₀ turns₀ pool work line input out words digits turns = (length input ≡ 65536) × ((length out ≡ 65536) × (words ≤ 16384))

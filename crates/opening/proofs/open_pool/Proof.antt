@@ -6,11 +6,6 @@ use Rattle.opening.proofs.Laws.{long-fails, header-fails, fit-fails, en
 use borrow.Author.Needs.{needs}
 use Rattle.opening.proofs.open_pool.Statement.{statement}
 use Rattle.opening.proofs.open_pool.Tie as tie
-use Rattle.opening.proofs.open_pool.Reads as reads
-use Rattle.opening.proofs.open_pool.Lts as lts
-use Rattle.words.proofs.all_finite.Reads as all-finite-reads
-use Rattle.words.proofs.good_header.Reads as good-header-reads
-use Rattle.words.proofs.page_count.Reads as page-count-reads
 
 page-count-requires : tie.Need-page-count-requires
 page-count-requires c κs = search needs

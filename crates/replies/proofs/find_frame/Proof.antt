@@ -9,12 +9,6 @@ use borrow.Author.Needs.{needs}
 use native.Mathlib.Omega.{arith}
 use Rattle.replies.proofs.find_frame.Statement.{statement}
 use Rattle.replies.proofs.find_frame.Tie as tie
-use Rattle.replies.proofs.find_frame.Reads as reads
-use Rattle.replies.proofs.find_frame.Lts as lts
-use Rattle.answers.proofs.found_values.Reads as found-values-reads
-use Rattle.answers.proofs.no_frame.Reads as no-frame-reads
-use Rattle.answers.proofs.put_answer.Reads as put-answer-reads
-use Rattle.query.proofs.find.Reads as find-reads
 
 no-frame-requires : tie.Need-no-frame-requires
 no-frame-requires c κs = search needs

@@ -10,16 +10,6 @@ use borrow.Author.Needs.{needs}
 use native.Mathlib.Omega.{arith}
 use Rattle.replies.proofs.frame.Statement.{statement}
 use Rattle.replies.proofs.frame.Tie as tie
-use Rattle.replies.proofs.frame.Reads as reads
-use Rattle.replies.proofs.frame.Lts as lts
-use Rattle.replies.proofs.find_frame.Reads as find-frame-reads
-use Rattle.replies.proofs.list_frame.Reads as list-frame-reads
-use Rattle.replies.proofs.new_frame.Reads as new-frame-reads
-use Rattle.answers.proofs.no_frame.Reads as no-frame-reads
-use Rattle.replies.proofs.place_frame.Reads as place-frame-reads
-use Rattle.answers.proofs.refuse.Reads as refuse-reads
-use Rattle.replies.proofs.remove_frame.Reads as remove-frame-reads
-use Rattle.text.proofs.words_of.Reads as words-of-reads
 
 no-frame-requires : tie.Need-no-frame-requires
 no-frame-requires c κs = search needs

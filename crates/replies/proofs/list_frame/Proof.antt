@@ -10,13 +10,6 @@ use borrow.Author.Needs.{needs}
 use native.Mathlib.Omega.{arith}
 use Rattle.replies.proofs.list_frame.Statement.{statement}
 use Rattle.replies.proofs.list_frame.Tie as tie
-use Rattle.replies.proofs.list_frame.Reads as reads
-use Rattle.replies.proofs.list_frame.Lts as lts
-use Rattle.words.proofs.smaller.Reads as smaller-reads
-use Rattle.answers.proofs.listed_values.Reads as listed-values-reads
-use Rattle.answers.proofs.no_frame.Reads as no-frame-reads
-use Rattle.answers.proofs.put_answer.Reads as put-answer-reads
-use Rattle.query.proofs.list.Reads as list-reads
 
 no-frame-requires : tie.Need-no-frame-requires
 no-frame-requires c κs = search needs

@@ -11,14 +11,6 @@ use borrow.Author.Needs.{needs}
 use native.Mathlib.Omega.{arith}
 use Rattle.replies.proofs.new_frame.Statement.{statement}
 use Rattle.replies.proofs.new_frame.Tie as tie
-use Rattle.replies.proofs.new_frame.Reads as reads
-use Rattle.replies.proofs.new_frame.Lts as lts
-use Rattle.text.proofs.byte_at.Reads as byte-at-reads
-use Rattle.answers.proofs.finished_values.Reads as finished-values-reads
-use Rattle.answers.proofs.no_frame.Reads as no-frame-reads
-use Rattle.answers.proofs.put_answer.Reads as put-answer-reads
-use Rattle.answers.proofs.refuse.Reads as refuse-reads
-use Rattle.index.proofs.format.Reads as format-reads
 
 no-frame-requires : tie.Need-no-frame-requires
 no-frame-requires c κs = search needs

@@ -11,12 +11,6 @@ use borrow.Author.Needs.{needs}
 use native.Mathlib.Omega.{arith}
 use Rattle.replies.proofs.place_frame.Statement.{statement}
 use Rattle.replies.proofs.place_frame.Tie as tie
-use Rattle.replies.proofs.place_frame.Reads as reads
-use Rattle.replies.proofs.place_frame.Lts as lts
-use Rattle.answers.proofs.no_frame.Reads as no-frame-reads
-use Rattle.index.proofs.place.Reads as place-reads
-use Rattle.answers.proofs.finished_values.Reads as finished-values-reads
-use Rattle.answers.proofs.put_answer.Reads as put-answer-reads
 
 no-frame-requires : tie.Need-no-frame-requires
 no-frame-requires c κs = search needs

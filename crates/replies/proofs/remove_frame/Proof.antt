@@ -9,12 +9,6 @@ use borrow.Author.Needs.{needs}
 use native.Mathlib.Omega.{arith}
 use Rattle.replies.proofs.remove_frame.Statement.{statement}
 use Rattle.replies.proofs.remove_frame.Tie as tie
-use Rattle.replies.proofs.remove_frame.Reads as reads
-use Rattle.replies.proofs.remove_frame.Lts as lts
-use Rattle.answers.proofs.no_frame.Reads as no-frame-reads
-use Rattle.index.proofs.remove.Reads as remove-reads
-use Rattle.answers.proofs.put_answer.Reads as put-answer-reads
-use Rattle.answers.proofs.removed_values.Reads as removed-values-reads
 
 no-frame-requires : tie.Need-no-frame-requires
 no-frame-requires c κs = search needs

@@ -5,8 +5,6 @@ use borrow.Author.Needs.{needs}
 use native.Mathlib.Omega.{arith}
 use Rattle.text.proofs.byte_at.Statement.{statement}
 use Rattle.text.proofs.byte_at.Tie as tie
-use Rattle.text.proofs.byte_at.Reads as reads
-use Rattle.text.proofs.byte_at.Lts as lts
 
 shared-slice-read-result : tie.Need-shared-slice-read-result
 shared-slice-read-result c = search needs

@@ -7,9 +7,6 @@ use borrow.Author.Needs.{needs}
 use native.Mathlib.Omega.{arith}
 use Rattle.text.proofs.decode.Statement.{statement}
 use Rattle.text.proofs.decode.Tie as tie
-use Rattle.text.proofs.decode.Reads as reads
-use Rattle.text.proofs.decode.Lts as lts
-use Rattle.text.proofs.pair_value.Reads as pair-value-reads
 
 abbrev Inv-loop : tie.InvT-loop
 Inv-loop line bytes₀ n₀ bytes n = Taken bytesOf 2 64 line bytes n

@@ -6,8 +6,6 @@ use Prim.Native.Nat.{_-_}
 use native.Mathlib.Omega.{arith}
 use Rattle.text.proofs.digit_value.Statement.{statement}
 use Rattle.text.proofs.digit_value.Tie as tie
-use Rattle.text.proofs.digit_value.Reads as reads
-use Rattle.text.proofs.digit_value.Lts as lts
 
 sub-result : tie.Need-sub-result
 sub-result c = search needs

@@ -3,9 +3,6 @@ use Rattle.text.proofs.Read.{pair-digits, pair-bad}
 use borrow.Author.Needs.{needs}
 use Rattle.text.proofs.pair_value.Statement.{statement}
 use Rattle.text.proofs.pair_value.Tie as tie
-use Rattle.text.proofs.pair_value.Reads as reads
-use Rattle.text.proofs.pair_value.Lts as lts
-use Rattle.text.proofs.digit_value.Reads as digit-value-reads
 
 digit-value-requires : tie.Need-digit-value-requires
 digit-value-requires c κs = search needs

@@ -4,9 +4,6 @@ use borrow.Author.Needs.{needs}
 use native.Mathlib.Omega.{arith}
 use Rattle.text.proofs.put_value.Statement.{statement}
 use Rattle.text.proofs.put_value.Tie as tie
-use Rattle.text.proofs.put_value.Reads as reads
-use Rattle.text.proofs.put_value.Lts as lts
-use Rattle.text.proofs.put_hex.Reads as put-hex-reads
 
 put-hex-requires : tie.Need-put-hex-requires
 put-hex-requires c κs = search needs

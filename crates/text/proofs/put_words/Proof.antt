@@ -7,9 +7,6 @@ use borrow.Author.Needs.{needs}
 use native.Mathlib.Omega.{arith}
 use Rattle.text.proofs.put_words.Statement.{statement}
 use Rattle.text.proofs.put_words.Tie as tie
-use Rattle.text.proofs.put_words.Reads as reads
-use Rattle.text.proofs.put_words.Lts as lts
-use Rattle.text.proofs.put_hex.Reads as put-hex-reads
 
 abbrev Inv-loop : tie.InvT-loop
 Inv-loop out₀ at words i₀ next₀ out i next = Worded (hex 8) out₀ at words out i next

@@ -7,9 +7,6 @@ use borrow.Author.Needs.{needs}
 use native.Mathlib.Omega.{arith}
 use Rattle.text.proofs.words_of.Statement.{statement}
 use Rattle.text.proofs.words_of.Tie as tie
-use Rattle.text.proofs.words_of.Reads as reads
-use Rattle.text.proofs.words_of.Lts as lts
-use Rattle.text.proofs.word_value.Reads as word-value-reads
 
 abbrev Inv-loop : tie.InvT-loop
 Inv-loop bytes words₀ n₀ words n = Taken wordsOf 4 16 bytes words n
