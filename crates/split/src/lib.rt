@@ -37,12 +37,20 @@ fn split_page(pool: &mut [u32], f: Form, d: usize, x: usize, level: usize, j: us
     if level == 0 {
         return part_points(pool, f, d, x, &old, m, e, j);
     }
-    part_regions(pool, f, d, x, level - 1, &old, m, e, j)
+    let r = open_pages(pool, f, 1, e, j);
+    if r == 0 {
+        return 0;
+    }
+    if entry_pass(pool, f, d, x, level - 1, &old, m, j, r) {
+        r
+    } else {
+        0
+    }
 }
 
 // Deals out the m entries of src, in page order; a crossing one has its child's page, of the given level, split first. Says whether every
 // page wanted was free.
-fn entry_pass(
+pub fn entry_pass(
     pool: &mut [u32],
     f: Form,
     d: usize,

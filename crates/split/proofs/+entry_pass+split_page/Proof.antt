@@ -1,4 +1,4 @@
--- `split::entry_pass`, `split::part_regions` and `split::split_page`, which call each other, meet their contracts.
+-- `split::entry_pass` and `split::split_page`, which call each other, meet their contracts.
 use Prim.Native.Nat.{ℕ, _≤_, _<_, _-_, _+_, _*_}
 use native.Mathlib.Nat.{sub-zero}
 use mathlib.Core.Path.{_≡_, refl, sym, _∙_}
@@ -11,51 +11,43 @@ use borrow.Fn.Kinds.{In}
 use borrow.Fn.PlainCycle.{Measures, is, falls, and}
 use Rattle.split.proofs.entry_pass.Reads as entry-pass
 use Rattle.split.proofs.entry_pass.Kinds as entry-pass-kinds
-use Rattle.split.proofs.+entry_pass+part_regions+split_page.Lts-entry_pass as entry-pass-lts
-use Rattle.split.proofs.part_regions.Reads as part-regions
-use Rattle.split.proofs.part_regions.Kinds as part-regions-kinds
-use Rattle.split.proofs.+entry_pass+part_regions+split_page.Lts-part_regions as part-regions-lts
+use Rattle.split.proofs.+entry_pass+split_page.Lts-entry_pass as entry-pass-lts
 use Rattle.split.proofs.split_page.Reads as split-page
 use Rattle.split.proofs.split_page.Kinds as split-page-kinds
-use Rattle.split.proofs.+entry_pass+part_regions+split_page.Lts-split_page as split-page-lts
+use Rattle.split.proofs.+entry_pass+split_page.Lts-split_page as split-page-lts
+use Rattle.split.proofs.after_forced.Reads as after-forced-reads
 use Rattle.deal.proofs.copy_part.Reads as copy-part-reads
 use Rattle.deal.proofs.crosses.Reads as crosses-reads
 use Rattle.deal.proofs.deal_both.Reads as deal-both-reads
 use Rattle.deal.proofs.deal_entry.Reads as deal-entry-reads
 use Rattle.deal.proofs.open_pages.Reads as open-pages-reads
 use Rattle.deal.proofs.part_points.Reads as part-points-reads
-use Rattle.split.proofs.after_forced.Reads as after-forced-reads
 use Rattle.words.proofs.get.Reads as get-reads
 use Rattle.words.proofs.word.Reads as word-reads
-use Rattle.split.proofs.+entry_pass+part_regions+split_page.{statement}
-use Rattle.split.proofs.+entry_pass+part_regions+split_page.Tie.{close}
+use Rattle.split.proofs.+entry_pass+split_page.{statement}
+use Rattle.split.proofs.+entry_pass+split_page.Tie.{close}
 
 abbrev μ-entry-pass : Measures 2 entry-pass-kinds.ps ℕ
-μ-entry-pass κs a = 3 * a .1 .1 .1 .1 .0 + 1
-
-abbrev μ-part-regions : Measures 2 part-regions-kinds.ps ℕ
-μ-part-regions κs a = 3 * a .1 .1 .1 .1 .0 + 2
+μ-entry-pass κs a = 2 * a .1 .1 .1 .1 .0 + 1
 
 abbrev μ-split-page : Measures 1 split-page-kinds.ps ℕ
-μ-split-page κs a = 3 * a .1 .1 .1 .1 .0
+μ-split-page κs a = 2 * a .1 .1 .1 .1 .0
 
 abbrev entry-pass-at : ℕ → In 2 entry-pass-kinds.ps
-entry-pass-at t = and 2 entry-pass-kinds.ps (is 2 entry-pass-kinds.ps μ-entry-pass t) entry-pass.Pre
+entry-pass-at t =
+    and 2 entry-pass-kinds.ps (is 2 entry-pass-kinds.ps μ-entry-pass t) entry-pass.Pre
 
 abbrev entry-pass-below : ℕ → In 2 entry-pass-kinds.ps
-entry-pass-below t = and 2 entry-pass-kinds.ps (falls 2 entry-pass-kinds.ps _<_ μ-entry-pass t) entry-pass.Pre
-
-abbrev part-regions-at : ℕ → In 2 part-regions-kinds.ps
-part-regions-at t = and 2 part-regions-kinds.ps (is 2 part-regions-kinds.ps μ-part-regions t) part-regions.Pre
-
-abbrev part-regions-below : ℕ → In 2 part-regions-kinds.ps
-part-regions-below t = and 2 part-regions-kinds.ps (falls 2 part-regions-kinds.ps _<_ μ-part-regions t) part-regions.Pre
+entry-pass-below t =
+    and 2 entry-pass-kinds.ps (falls 2 entry-pass-kinds.ps _<_ μ-entry-pass t) entry-pass.Pre
 
 abbrev split-page-at : ℕ → In 1 split-page-kinds.ps
-split-page-at t = and 1 split-page-kinds.ps (is 1 split-page-kinds.ps μ-split-page t) split-page.Pre
+split-page-at t =
+    and 1 split-page-kinds.ps (is 1 split-page-kinds.ps μ-split-page t) split-page.Pre
 
 abbrev split-page-below : ℕ → In 1 split-page-kinds.ps
-split-page-below t = and 1 split-page-kinds.ps (falls 1 split-page-kinds.ps _<_ μ-split-page t) split-page.Pre
+split-page-below t =
+    and 1 split-page-kinds.ps (falls 1 split-page-kinds.ps _<_ μ-split-page t) split-page.Pre
 
 abbrev entry-pass-calls : ℕ → entry-pass-lts.Claims
 entry-pass-calls t = (crosses-reads.Asked, crosses-reads.Learnt, get-reads.Asked, get-reads.Learnt, split-page-below t, split-page.Post, deal-both-reads.Asked, deal-both-reads.Learnt, deal-entry-reads.Asked, deal-entry-reads.Learnt)
@@ -130,35 +122,8 @@ entry-pass-same-length-2 t c = c .before .loop .inv .2
 entry-pass-returns-2 : (t : ℕ) → entry-pass-lts.Need-returns-2 (entry-pass-calls t) (entry-pass-at t) entry-pass.Post entry-pass-Inv-loop entry-pass-μ-loop
 entry-pass-returns-2 t c = laws.entries-end _ _ _ _ _ _ _ _ _ _ _ _ (c .before .loop .inv .3) (c .loop-test .left)
 
-abbrev part-regions-calls : ℕ → part-regions-lts.Claims
-part-regions-calls t = (open-pages-reads.Asked, open-pages-reads.Learnt, entry-pass-below t, entry-pass.Post)
-
-part-regions-open-pages-requires : (t : ℕ) → part-regions-lts.Need-open-pages-requires (part-regions-calls t) (part-regions-at t) part-regions.Post
-part-regions-open-pages-requires t c κs = search needs
-
-part-regions-same-length : (t : ℕ) → part-regions-lts.Need-same-length (part-regions-calls t) (part-regions-at t) part-regions.Post
-part-regions-same-length t c = search needs
-
-part-regions-returns : (t : ℕ) → part-regions-lts.Need-returns (part-regions-calls t) (part-regions-at t) part-regions.Post
-part-regions-returns t c = (laws.regions-none _ _ _ _ _ _ _ _ _ _ _ _ (c .before .before .before .open-pages .ensures .0) (c .if1 .taken), omega arith)
-
-part-regions-entry-pass-requires : (t : ℕ) → part-regions-lts.Need-entry-pass-requires (part-regions-calls t) (part-regions-at t) part-regions.Post
-part-regions-entry-pass-requires t c κs = search needs
-
-part-regions-same-length-2 : (t : ℕ) → part-regions-lts.Need-same-length-2 (part-regions-calls t) (part-regions-at t) part-regions.Post
-part-regions-same-length-2 t c = c .before .before .before .entry-pass .kept .0 ∙ c .before .before .before .before .before .before .before .before .open-pages .kept .0
-
-part-regions-returns-2 : (t : ℕ) → part-regions-lts.Need-returns-2 (part-regions-calls t) (part-regions-at t) part-regions.Post
-part-regions-returns-2 t c = (laws.regions-whole _ _ _ _ _ _ _ _ _ _ _ _ (c .before .before .before .before .before .before .before .before .open-pages .ensures .0) (c .before .before .before .before .before .if1 .left) _ _ (c .before .before .before .entry-pass .ensures) (c .if2 .taken), c .before .before .before .before .before .before .before .before .open-pages .ensures .1)
-
-part-regions-same-length-3 : (t : ℕ) → part-regions-lts.Need-same-length-3 (part-regions-calls t) (part-regions-at t) part-regions.Post
-part-regions-same-length-3 t c = c .before .before .before .entry-pass .kept .0 ∙ c .before .before .before .before .before .before .before .before .open-pages .kept .0
-
-part-regions-returns-3 : (t : ℕ) → part-regions-lts.Need-returns-3 (part-regions-calls t) (part-regions-at t) part-regions.Post
-part-regions-returns-3 t c = (laws.regions-short _ _ _ _ _ _ _ _ _ _ _ _ (c .before .before .before .before .before .before .before .before .open-pages .ensures .0) (c .before .before .before .before .before .if1 .left) _ _ (c .before .before .before .entry-pass .ensures) (c .if2 .left), omega arith)
-
 abbrev split-page-calls : ℕ → split-page-lts.Claims
-split-page-calls t = (word-reads.Asked, word-reads.Learnt, after-forced-reads.Asked, after-forced-reads.Learnt, copy-part-reads.Asked, copy-part-reads.Learnt, part-points-reads.Asked, part-points-reads.Learnt, part-regions-below t, part-regions.Post)
+split-page-calls t = (word-reads.Asked, word-reads.Learnt, after-forced-reads.Asked, after-forced-reads.Learnt, copy-part-reads.Asked, copy-part-reads.Learnt, part-points-reads.Asked, part-points-reads.Learnt, open-pages-reads.Asked, open-pages-reads.Learnt, entry-pass-below t, entry-pass.Post)
 
 split-page-word-requires : (t : ℕ) → split-page-lts.Need-word-requires (split-page-calls t) (split-page-at t) split-page.Post
 split-page-word-requires t c κs = search needs
@@ -189,26 +154,46 @@ split-page-returns t c = let a = (c .before .before .before .before .before .bef
     let e = (rw (c .before .before .before .before .before .before .before .copy-part .ensures .0, c .before .before .before .before .before .before .before .before .before .before .before .before .word .ensures .0, c .before .before .before .before .before .before .before .before .before .before .after-forced .ensures .0) at (c .before .before .part-points .ensures .0)) in
     (e ∙ laws.split-points (a .f .pages) (a .pool .now) (a .j) (c .before .before .before .before .before .before .before .before .before .before .before .before .before .before .before .pre .1 .0 .words) (a .f .domains) (a .d) (a .x) (a .level) (c .before .before .before .before .before .if1 .taken), c .before .before .part-points .ensures .1)
 
-split-page-sub-part-regions : (t : ℕ) → split-page-lts.Need-sub-part-regions (split-page-calls t) (split-page-at t) split-page.Post
-split-page-sub-part-regions t c = search needs
-
-split-page-slice-aggregate-part-regions : (t : ℕ) → split-page-lts.Need-slice-aggregate-part-regions (split-page-calls t) (split-page-at t) split-page.Post
-split-page-slice-aggregate-part-regions t c = search needs
-
-split-page-part-regions-requires : (t : ℕ) → split-page-lts.Need-part-regions-requires (split-page-calls t) (split-page-at t) split-page.Post
-split-page-part-regions-requires t c κs = search needs
+split-page-open-pages-requires : (t : ℕ) → split-page-lts.Need-open-pages-requires (split-page-calls t) (split-page-at t) split-page.Post
+split-page-open-pages-requires t c κs = search needs
 
 split-page-same-length-2 : (t : ℕ) → split-page-lts.Need-same-length-2 (split-page-calls t) (split-page-at t) split-page.Post
-split-page-same-length-2 t c = search needs
+split-page-same-length-2 t c = c .before .before .before .open-pages .kept .0
 
 split-page-returns-2 : (t : ℕ) → split-page-lts.Need-returns-2 (split-page-calls t) (split-page-at t) split-page.Post
 split-page-returns-2 t c = let a = (c .before .before .before .before .before .before .before .before .before .before .before .before .before .before .before .args) in
-    let e = (rw (c .before .before .before .before .before .before .before .copy-part .ensures .0, c .before .before .before .before .before .before .before .before .before .before .before .before .word .ensures .0, c .before .before .before .before .before .before .before .before .before .before .after-forced .ensures .0) at (c .before .before .part-regions .ensures .0)) in
-    (e ∙ laws.split-regions (a .f .pages) (a .pool .now) (a .j) (c .before .before .before .before .before .before .before .before .before .before .before .before .before .before .before .pre .1 .0 .words) (a .f .domains) (a .d) (a .x) (a .level) (a .level - 1) (omega (arith, c .before .before .before .before .before .if1 .left)), c .before .before .part-regions .ensures .1)
+    let o = (rw (c .before .before .before .before .before .before .before .before .before .before .after-forced .ensures .0) at (c .before .before .before .open-pages .ensures .0)) in
+    (laws.regions-none _ _ _ _ (splitIn 32 (a .f .pages) (a .f .domains) (a .d) (a .x) (a .level - 1)) _ _ _ _ _ _ _ o (c .if2 .taken) ∙ laws.split-regions (a .f .pages) (a .pool .now) (a .j) (c .before .before .before .before .before .before .before .before .before .before .before .before .before .before .before .pre .1 .0 .words) (a .f .domains) (a .d) (a .x) (a .level) (a .level - 1) (omega (arith, c .before .before .before .before .before .if1 .left)), omega arith)
 
-pub +entry-pass+part-regions+split-page-spec : {M : Type 1} → statement M
-+entry-pass+part-regions+split-page-spec =
-    close μ-entry-pass μ-part-regions μ-split-page (λ t. entry-pass-lts.spec (entry-pass-calls t)
+split-page-sub-entry-pass : (t : ℕ) → split-page-lts.Need-sub-entry-pass (split-page-calls t) (split-page-at t) split-page.Post
+split-page-sub-entry-pass t c = search needs
+
+split-page-slice-aggregate-entry-pass : (t : ℕ) → split-page-lts.Need-slice-aggregate-entry-pass (split-page-calls t) (split-page-at t) split-page.Post
+split-page-slice-aggregate-entry-pass t c = search needs
+
+split-page-entry-pass-requires : (t : ℕ) → split-page-lts.Need-entry-pass-requires (split-page-calls t) (split-page-at t) split-page.Post
+split-page-entry-pass-requires t c κs = search needs
+
+split-page-same-length-3 : (t : ℕ) → split-page-lts.Need-same-length-3 (split-page-calls t) (split-page-at t) split-page.Post
+split-page-same-length-3 t c = c .before .before .before .entry-pass .kept .0 ∙ c .before .before .before .before .before .before .before .before .before .open-pages .kept .0
+
+split-page-returns-3 : (t : ℕ) → split-page-lts.Need-returns-3 (split-page-calls t) (split-page-at t) split-page.Post
+split-page-returns-3 t c = let a = (c .before .before .before .before .before .before .before .before .before .before .before .before .before .before .before .before .before .before .before .before .before .args) in
+    let o = (rw (c .before .before .before .before .before .before .before .before .before .before .before .before .before .before .before .before .after-forced .ensures .0) at (c .before .before .before .before .before .before .before .before .before .open-pages .ensures .0)) in
+    let p = (rw (c .before .before .before .before .before .before .before .before .before .before .before .before .before .copy-part .ensures .0, c .before .before .before .before .before .before .before .before .before .before .before .before .before .before .before .before .before .before .word .ensures .0) at (c .before .before .before .entry-pass .ensures)) in
+    (laws.regions-whole _ _ _ _ _ _ _ _ _ _ _ _ o (c .before .before .before .before .before .before .if2 .left) _ _ p (c .if3 .taken) ∙ laws.split-regions (a .f .pages) (a .pool .now) (a .j) (c .before .before .before .before .before .before .before .before .before .before .before .before .before .before .before .before .before .before .before .before .before .pre .1 .0 .words) (a .f .domains) (a .d) (a .x) (a .level) (a .level - 1) (omega (arith, c .before .before .before .before .before .before .before .before .before .before .before .if1 .left)), c .before .before .before .before .before .before .before .before .before .open-pages .ensures .1)
+
+split-page-same-length-4 : (t : ℕ) → split-page-lts.Need-same-length-4 (split-page-calls t) (split-page-at t) split-page.Post
+split-page-same-length-4 t c = c .before .before .before .entry-pass .kept .0 ∙ c .before .before .before .before .before .before .before .before .before .open-pages .kept .0
+
+split-page-returns-4 : (t : ℕ) → split-page-lts.Need-returns-4 (split-page-calls t) (split-page-at t) split-page.Post
+split-page-returns-4 t c = let a = (c .before .before .before .before .before .before .before .before .before .before .before .before .before .before .before .before .before .before .before .before .before .args) in
+    let o = (rw (c .before .before .before .before .before .before .before .before .before .before .before .before .before .before .before .before .after-forced .ensures .0) at (c .before .before .before .before .before .before .before .before .before .open-pages .ensures .0)) in
+    let p = (rw (c .before .before .before .before .before .before .before .before .before .before .before .before .before .copy-part .ensures .0, c .before .before .before .before .before .before .before .before .before .before .before .before .before .before .before .before .before .before .word .ensures .0) at (c .before .before .before .entry-pass .ensures)) in
+    (laws.regions-short _ _ _ _ _ _ _ _ _ _ _ _ o (c .before .before .before .before .before .before .if2 .left) _ _ p (c .if3 .left) ∙ laws.split-regions (a .f .pages) (a .pool .now) (a .j) (c .before .before .before .before .before .before .before .before .before .before .before .before .before .before .before .before .before .before .before .before .before .pre .1 .0 .words) (a .f .domains) (a .d) (a .x) (a .level) (a .level - 1) (omega (arith, c .before .before .before .before .before .before .before .before .before .before .before .if1 .left)), omega arith)
+
+pub +entry-pass+split-page-spec : {M : Type 1} → statement M
++entry-pass+split-page-spec = close μ-entry-pass μ-split-page (λ t. entry-pass-lts.spec (entry-pass-calls t)
     (entry-pass-at t)
     entry-pass.Post
     entry-pass-Inv-loop
@@ -233,17 +218,6 @@ pub +entry-pass+part-regions+split-page-spec : {M : Type 1} → statement M
     (entry-pass-loop-again-2 t)
     (entry-pass-same-length-2 t)
     (entry-pass-returns-2 t))
-    (λ t. part-regions-lts.spec (part-regions-calls t)
-    (part-regions-at t)
-    part-regions.Post
-    (part-regions-open-pages-requires t)
-    (part-regions-same-length t)
-    (part-regions-returns t)
-    (part-regions-entry-pass-requires t)
-    (part-regions-same-length-2 t)
-    (part-regions-returns-2 t)
-    (part-regions-same-length-3 t)
-    (part-regions-returns-3 t))
     λ t. split-page-lts.spec (split-page-calls t)
     (split-page-at t)
     split-page.Post
@@ -256,8 +230,13 @@ pub +entry-pass+part-regions+split-page-spec : {M : Type 1} → statement M
     (split-page-part-points-requires t)
     (split-page-same-length t)
     (split-page-returns t)
-    (split-page-sub-part-regions t)
-    (split-page-slice-aggregate-part-regions t)
-    (split-page-part-regions-requires t)
+    (split-page-open-pages-requires t)
     (split-page-same-length-2 t)
     (split-page-returns-2 t)
+    (split-page-sub-entry-pass t)
+    (split-page-slice-aggregate-entry-pass t)
+    (split-page-entry-pass-requires t)
+    (split-page-same-length-3 t)
+    (split-page-returns-3 t)
+    (split-page-same-length-4 t)
+    (split-page-returns-4 t)
