@@ -1,10 +1,9 @@
 -- The tests of one domain, as the loops over domains make them; `allBy` makes a loop of each.
-use mathlib.Core.Bool.{Bool, true, _&&_}
+use mathlib.Core.Bool.{Bool, _&&_}
 use mathlib.Core.List.{List}
 use Prim.Native.Nat.{ℕ, _+_, max}
 use lib.Dec.{leb, ltb, eqb}
 use lib.ListN.{getD}
-use Rattle.words.specs.Loops.{allBy}
 use Rattle.words.specs.Words.{pointKey}
 
 -- lower ≤ key < upper

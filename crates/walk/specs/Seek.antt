@@ -5,7 +5,7 @@ use Prim.Native.Nat.{ℕ, _+_}
 use lib.ListN.{length}
 use Rattle.kdb.specs.Box.{Key, within}
 use Rattle.kdb.specs.Pages.{Ent}
-use Rattle.kdb.specs.Walk.{Spot, End, rootless, bad, absent, here, Search}
+use Rattle.kdb.specs.Walk.{End, rootless, bad, absent, here, Search}
 use Rattle.walk.specs.declared.Sought.{Sought}
 use Rattle.walk.specs.declared.Sought.the-variants.{Here, Absent, Bad, NoRoot}
 

@@ -10,7 +10,7 @@ use Rattle.kdb.specs.Calls.{L}
 use Rattle.kdb.specs.declared.Form.{Form}
 use Rattle.kdb.proofs.Words.{rec-turn}
 use Rattle.words.specs.Loops.{keysBy}
-use Rattle.words.specs.Words.{keyAt, locationAt, pointKey, pointLocation, keysOf, recordsFrom, Formed, RecordIn}
+use Rattle.words.specs.Words.{keyAt, pointKey, pointLocation, keysOf, recordsFrom, Formed, RecordIn}
 use Rattle.words.proofs.Loops.{keys-by}
 
 -- a slot's place is not far

@@ -8,7 +8,6 @@ use native.Mathlib.Nat.{sub-zero}
 use mathlib.Core.Bool.{not}
 use mathlib.Core.Path.{_≡_, refl, _∙_}
 use Prim.Native.Nat.{_-_}
-use borrow.Author.Needs.{needs}
 use native.Mathlib.Omega.{arith}
 use Rattle.walk.proofs.list_leaves.Statement.{statement}
 use Rattle.walk.proofs.list_leaves.Tie as tie

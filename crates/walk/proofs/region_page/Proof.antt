@@ -2,7 +2,6 @@
 use Rattle.walk.proofs.Pages.{past}
 use native.Mathlib.Nat.{add-zero}
 use Prim.Native.Nat.{_*_}
-use borrow.Author.Needs.{needs}
 use native.Mathlib.Omega.{arith}
 use Rattle.walk.proofs.region_page.Statement.{statement}
 use Rattle.walk.proofs.region_page.Tie as tie
