@@ -13,10 +13,6 @@ use Rattle.words.specs.Loops.{keysBy}
 use Rattle.words.specs.Words.{keyAt, pointKey, pointLocation, keysOf, recordsFrom, Formed, RecordIn}
 use Rattle.words.proofs.Loops.{keys-by}
 
--- a slot's place is not far
-pub slot-near : (e k : ℕ) → k ≤ 4 → e * (k + 1) ≤ e * 5
-slot-near e k h = mul-le-mul-left e (omega arith)
-
 -- the keys one behind the other, then the location
 key-from : (k j e d : ℕ) → keyAt k j e 0 + d ≡ keyAt k j e d
 key-from k j e d = omega arith
@@ -44,13 +40,12 @@ records-all k w j c = let q : keyAt k j 0 0 ≡ L * j + 4 = omega (arith, zero-m
 -- c records that fit into page j lie in the pool
 pub records-in : (w : List ℕ) (f : Form) (j c : ℕ) → Formed w f → j < f .pages → c * (f .domains + 1) ≤ L - 4
     → (c ≤ 28) × ((e : ℕ) → e < c → RecordIn w (f .domains) j e)
-records-in w f j c g i h = (few c h, slot)
+records-in w f j c g i h =
+    let s : c * 1 ≤ c * (f .domains + 1) = mul-le-mul-left c (omega arith) in
+    (omega (arith, h), slot)
   where
-    few : (n : ℕ) → n * (f .domains + 1) ≤ L - 4 → n ≤ 28
-    few n m = let s : n * 1 ≤ n * (f .domains + 1) = mul-le-mul-left n (omega arith) in omega (arith, m)
-
     slot : (e : ℕ) → e < c → RecordIn w (f .domains) j e
     slot e l =
         let q : suc e * (f .domains + 1) ≤ c * (f .domains + 1) = mul-le-mul-right (f .domains + 1) l in
         let r : suc e * (f .domains + 1) ≡ e * (f .domains + 1) + (f .domains + 1) = suc-mul e (f .domains + 1) in
-        record { some = g .some; few = g .few; page = omega (arith, g .most); slot = omega (arith, few c h); ends = omega (arith, g .words) }
+        record { some = g .some; few = g .few; ends = omega (arith, g .words) }

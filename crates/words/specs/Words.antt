@@ -93,6 +93,4 @@ pub record RegionIn (w : List ℕ) (k a : ℕ) : Type 0 where
 pub record RecordIn (w : List ℕ) (k j e : ℕ) : Type 0 where
   pub some : 1 ≤ k
   pub few : k ≤ 4
-  pub page : j < 2 ^ 32
-  pub slot : e < 2 ^ 32
   pub ends : locationAt k j e < length w

@@ -158,7 +158,7 @@ pub fn domains_of(f: Form) -> usize
 
 // Where key d of the record in a slot of point page j stands: a record is its keys, then its location.
 pub fn key_at(f: Form, j: usize, slot: usize, d: usize) -> usize
-    requires { ⌜ (f .domains ≤ 4) × ((j < 2 ^ 32) × ((slot < 2 ^ 32) × (d ≤ f .domains))) ⌝ }
+    requires { ⌜ (f .domains ≤ 4) × (keyAt (f .domains) j slot d < 2 ^ 64) ⌝ }
     ensures { λ r. ⌜ r ≡ keyAt (f .domains) j slot d ⌝ }
 {
     32 * j + 4 + slot * (f.domains + 1) + d
@@ -166,7 +166,7 @@ pub fn key_at(f: Form, j: usize, slot: usize, d: usize) -> usize
 
 // Where its location stands.
 pub fn location_at(f: Form, j: usize, slot: usize) -> usize
-    requires { ⌜ (f .domains ≤ 4) × ((j < 2 ^ 32) × (slot < 2 ^ 32)) ⌝ }
+    requires { ⌜ (f .domains ≤ 4) × (locationAt (f .domains) j slot < 2 ^ 64) ⌝ }
     ensures { λ r. ⌜ r ≡ locationAt (f .domains) j slot ⌝ }
 {
     key_at(f, j, slot, f.domains)
