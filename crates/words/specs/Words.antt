@@ -1,6 +1,6 @@
 -- The words that the accessors give, over a whole pool. A word past the end is 0.
 use mathlib.Core.Bool.{Bool, true, cond}
-use mathlib.Core.List.{List}
+use mathlib.Core.List.{List, [], _∷_}
 use mathlib.Core.Path.{_≡_}
 use Prim.Native.Nat.{ℕ, zero, suc, _+_, _-_, _*_, _^_, _≤_, _<_}
 use lib.Dec.{eqb}
@@ -52,17 +52,17 @@ capacityOf zero k = regionsPer L k
 capacityOf (suc kind) k = pointsPer L k
 
 -- where key d of the record in slot e of page j stands, and its location, behind its keys
-abbrev pub keyAt : ℕ → ℕ → ℕ → ℕ → ℕ
-keyAt k j e d = L * j + 4 + e * (k + 1) + d
+abbrev pub keyPlace : ℕ → ℕ → ℕ → ℕ → ℕ
+keyPlace k j e d = L * j + 4 + e * (k + 1) + d
 
-abbrev pub locationAt : ℕ → ℕ → ℕ → ℕ
-locationAt k j e = keyAt k j e k
+abbrev pub locationPlace : ℕ → ℕ → ℕ → ℕ
+locationPlace k j e = keyPlace k j e k
 
 abbrev pub pointKey : List ℕ → ℕ → ℕ → ℕ → ℕ → ℕ
-pointKey w k j e d = getD w (keyAt k j e d) 0
+pointKey w k j e d = getD w (keyPlace k j e d) 0
 
 abbrev pub pointLocation : List ℕ → ℕ → ℕ → ℕ → ℕ
-pointLocation w k j e = getD w (locationAt k j e) 0
+pointLocation w k j e = getD w (locationPlace k j e) 0
 
 -- of m pages from j on, those whose kind is 0
 abbrev pub freeFrom : List ℕ → ℕ → ℕ → List ℕ
@@ -77,11 +77,11 @@ abbrev pub regionAt : ℕ → List ℕ → ℕ → Box
 regionAt k w a = sides (take k (drop a w)) (take k (drop (a + k) w))
 
 abbrev pub keysOf : ℕ → List ℕ → ℕ → ℕ → Key
-keysOf k w j e = take k (drop (keyAt k j e 0) w)
+keysOf k w j e = take k (drop (keyPlace k j e 0) w)
 
 -- of c records of page j, those from slot e on
 abbrev pub recordsFrom : ℕ → List ℕ → ℕ → ℕ → ℕ → List Rec
-recordsFrom k w j c e = readRecs k (c - e) (drop (keyAt k j e 0) w)
+recordsFrom k w j c e = readRecs k (c - e) (drop (keyPlace k j e 0) w)
 
 -- the region at word a, and the record in slot e of page j, with its location, end within the pool
 pub record RegionIn (w : List ℕ) (k a : ℕ) : Type 0 where
@@ -92,6 +92,4 @@ pub record RegionIn (w : List ℕ) (k a : ℕ) : Type 0 where
 pub record RecordIn (w : List ℕ) (k j e : ℕ) : Type 0 where
   pub some : 1 ≤ k
   pub few : k ≤ 4
-  pub page : j < 2 ^ 32
-  pub slot : e < 2 ^ 32
-  pub ends : locationAt k j e < length w
+  pub ends : locationPlace k j e < length w

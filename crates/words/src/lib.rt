@@ -6,7 +6,7 @@ ghost use lib.ListN.{length, getD, set, replicate};
 ghost use lib.Seq.{sets};
 ghost use Rattle.kdb.specs.Pool.{pagesIn, goodHeader, GoodLength};
 ghost use Rattle.kdb.specs.Calls.{L, finite};
-ghost use Rattle.words.specs.Words.{wordAt, pageCount, formOf, capacityOf, keyAt, locationAt, pointKey, pointLocation, lowestFree, allZero, RegionIn, RecordIn};
+ghost use Rattle.words.specs.Words.{wordAt, pageCount, formOf, capacityOf, keyPlace, locationPlace, pointKey, pointLocation, lowestFree, allZero, RegionIn, RecordIn};
 
 // Regions and points a page, by K from 1 to 4.
 const CAPACITIES: [[u32; 4]; 2] = [[9, 5, 4, 3], [14, 9, 7, 5]];
@@ -176,16 +176,16 @@ pub fn domains_of(f: Form) -> usize
 
 // Where key d of the record in a slot of point page j stands: a record is its keys, then its location.
 pub fn key_at(f: Form, j: usize, slot: usize, d: usize) -> usize
-    requires { ⌜ (f .domains ≤ 4) × ((j < 2 ^ 32) × ((slot < 2 ^ 32) × (d ≤ f .domains))) ⌝ }
-    ensures { λ r. ⌜ r ≡ keyAt (f .domains) j slot d ⌝ }
+    requires { ⌜ (f .domains ≤ 4) × (keyPlace (f .domains) j slot d < 2 ^ 64) ⌝ }
+    ensures { λ r. ⌜ r ≡ keyPlace (f .domains) j slot d ⌝ }
 {
     32 * j + 4 + slot * (f.domains + 1) + d
 }
 
 // Where its location stands.
 pub fn location_at(f: Form, j: usize, slot: usize) -> usize
-    requires { ⌜ (f .domains ≤ 4) × ((j < 2 ^ 32) × (slot < 2 ^ 32)) ⌝ }
-    ensures { λ r. ⌜ r ≡ locationAt (f .domains) j slot ⌝ }
+    requires { ⌜ (f .domains ≤ 4) × (locationPlace (f .domains) j slot < 2 ^ 64) ⌝ }
+    ensures { λ r. ⌜ r ≡ locationPlace (f .domains) j slot ⌝ }
 {
     key_at(f, j, slot, f.domains)
 }
