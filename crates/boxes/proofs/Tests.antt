@@ -17,7 +17,7 @@ use Rattle.kdb.proofs.Tests.{and-true, and-assoc}
 use Rattle.words.proofs.Loops.{keys-by}
 use Rattle.words.proofs.Slots.{key-from, keys-of}
 use Rattle.words.specs.Loops.{allBy, keysBy}
-use Rattle.words.specs.Words.{keyAt, pointKey, regionAt, keysOf, RegionIn, RecordIn}
+use Rattle.words.specs.Words.{keyPlace, pointKey, regionAt, keysOf, RegionIn, RecordIn}
 use Rattle.boxes.specs.Tests.{holdsAt, meetsAt, seenAt, orderedAt}
 
 -- a loop over m domains from d on, by the functions that give the ends and the keys
@@ -84,14 +84,14 @@ pub record Alike (w : List ℕ) (k j s : ℕ) (p : List ℕ) (d : ℕ) (v : Bool
 
 module _ (w : List ℕ) (k j s : ℕ) (p : List ℕ) (d : ℕ) (v : Bool) (m : Alike w k j s p d v) where
   kept : length (keysOf k w j s) ≡ k
-  kept = length-take-le k (drop (keyAt k j s 0) w) (omega (arith, length-drop (keyAt k j s 0) w, m .held .ends))
+  kept = length-take-le k (drop (keyPlace k j s 0) w) (omega (arith, length-drop (keyPlace k j s 0) w, m .held .ends))
 
   pub same-end : k ≤ d → true ≡ v
   same-end h = rw (drop-of-length-le p {i = d} (omega (arith, m .long)), drop-of-length-le (keysOf k w j s) {i = d} (omega (arith, kept))) at (m .rest)
 
   module _ (l : d < k) where
     key-here : getD (keysOf k w j s) d 0 ≡ pointKey w k j s d
-    key-here = getD-take k (drop (keyAt k j s 0) w) d 0 l ∙ getD-drop (keyAt k j s 0) w d 0 ∙ ap (λ (i : ℕ). getD w i 0) (key-from k j s d)
+    key-here = getD-take k (drop (keyPlace k j s 0) w) d 0 l ∙ getD-drop (keyPlace k j s 0) w d 0 ∙ ap (λ (i : ℕ). getD w i 0) (key-from k j s d)
 
     turn : eqb (getD p d 0) (pointKey w k j s d) && same (drop (d + 1) p) (drop (d + 1) (keysOf k w j s)) ≡ v
     turn = rw (add-one d) (rw (drop-cons p d 0 (omega (arith, m .long)), drop-cons (keysOf k w j s) d 0 (omega (arith, kept)), key-here) at (m .rest))
