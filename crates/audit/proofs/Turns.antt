@@ -22,7 +22,7 @@ use Rattle.words.proofs.Laws.{pages}
 use Rattle.audit.specs.declared.Seen.{Seen}
 use Rattle.pages.specs.Tests.{PageOf}
 use Rattle.pages.specs.Kinds.{soundPoints, soundRegions}
-use Rattle.audit.specs.Walk.{Way, spoilt, calm, entryByEntry, freshOf, fresh, leafOf, pageOf, rootWalk, clearedOf, restOf, unmarked, audited}
+use Rattle.audit.specs.Walk.{Way, badAfter, calm, entryByEntry, freshOf, fresh, leafOf, pageWalk, rootWalk, clearedOf, restOf, unmarked, audited}
 
 module _ (step : Ent → Seen → List ℕ → Way) (w : List ℕ) (k c e a : ℕ) (s : Seen) (m : List ℕ) (v : Way) where
   pub entries-end : entryByEntry step (readEnts k (c - e) (drop a w)) s m ≡ v → c ≤ e → (s, m) ≡ v
@@ -52,36 +52,36 @@ module _ (l : ℕ) (w : List ℕ) (f : Form) (g : Formed w f) (j : ℕ) (r : Box
   fresh-is : (t : Bool) → freshOf (f .pages) j m s ≡ t → fresh L w j m s ≡ t
   fresh-is t e = rw (pages w f g) e
 
-  pub page-bad : freshOf (f .pages) j m s ≡ false → (spoilt (s .left), m) ≡ pageOf L w (l - 1) j r s m
-  unfolding pageOf
+  pub page-bad : freshOf (f .pages) j m s ≡ false → (badAfter (s .left), m) ≡ pageWalk L w (l - 1) j r s m
+  unfolding pageWalk
   page-bad a = go (fresh-is false a) (l - 1)
     where
-      go : fresh L w j m s ≡ false → (x : ℕ) → (spoilt (s .left), m) ≡ pageOf L w x j r s m
+      go : fresh L w j m s ≡ false → (x : ℕ) → (badAfter (s .left), m) ≡ pageWalk L w x j r s m
       go a zero = rw a
       go a (suc x) = rw a
 
-  pub page-leaf : freshOf (f .pages) j m s ≡ true → l ≤ 1 → (leafOf L w j r (s .left), set m j 1) ≡ pageOf L w (l - 1) j r s m
-  unfolding pageOf
+  pub page-leaf : freshOf (f .pages) j m s ≡ true → l ≤ 1 → (leafOf L w j r (s .left), set m j 1) ≡ pageWalk L w (l - 1) j r s m
+  unfolding pageWalk
   page-leaf a h = let z : l - 1 ≡ 0 = omega arith in rw z (rw (fresh-is true a))
 
-  pub page-spoilt : freshOf (f .pages) j m s ≡ true → 1 < l → soundRegions L w j r ≡ false → (spoilt (s .left), set m j 1) ≡ pageOf L w (l - 1) j r s m
-  unfolding pageOf
+  pub page-spoilt : freshOf (f .pages) j m s ≡ true → 1 < l → soundRegions L w j r ≡ false → (badAfter (s .left), set m j 1) ≡ pageWalk L w (l - 1) j r s m
+  unfolding pageWalk
   page-spoilt a h t = let z : l - 1 ≡ suc (l - 1 - 1) = omega arith in rw z (rw (fresh-is true a, t))
 
   pub page-entries : freshOf (f .pages) j m s ≡ true → 1 < l → soundRegions L w j r ≡ true
-      → entryByEntry (λ e. pageOf L w (l - 1 - 1) (e .child) (e .box)) (entsIn (view L w j)) (calm (s .left)) (set m j 1) ≡ pageOf L w (l - 1) j r s m
-  unfolding pageOf
+      → entryByEntry (λ e. pageWalk L w (l - 1 - 1) (e .child) (e .box)) (entsIn (view L w j)) (calm (s .left)) (set m j 1) ≡ pageWalk L w (l - 1) j r s m
+  unfolding pageWalk
   page-entries a h t =
       let z : l - 1 ≡ suc (l - 1 - 1) = omega arith in
-      let e : entryByEntry (λ x. pageOf L w (l - 1 - 1) (x .child) (x .box)) (entsIn (view L w j)) (calm (s .left)) (set m j 1) ≡ pageOf L w (suc (l - 1 - 1)) j r s m = rw (fresh-is true a, t) in
-      e ∙ ap (λ (x : ℕ). pageOf L w x j r s m) (sym z)
+      let e : entryByEntry (λ x. pageWalk L w (l - 1 - 1) (x .child) (x .box)) (entsIn (view L w j)) (calm (s .left)) (set m j 1) ≡ pageWalk L w (suc (l - 1 - 1)) j r s m = rw (fresh-is true a, t) in
+      e ∙ ap (λ (x : ℕ). pageWalk L w x j r s m) (sym z)
 
 module _ (w : List ℕ) (j : ℕ) (r : Box) (left : ℕ) where
-  pub leaf-bad : soundPoints L w j r ≡ false → spoilt left ≡ leafOf L w j r left
+  pub leaf-bad : soundPoints L w j r ≡ false → badAfter left ≡ leafOf L w j r left
   unfolding leafOf
   leaf-bad g = rw g
 
-  pub leaf-few : soundPoints L w j r ≡ true → left < length (recsIn (view L w j)) → spoilt left ≡ leafOf L w j r left
+  pub leaf-few : soundPoints L w j r ≡ true → left < length (recsIn (view L w j)) → badAfter left ≡ leafOf L w j r left
   unfolding leafOf
   leaf-few g h = rw (g, lt-ltb _ _ h)
 
@@ -94,7 +94,7 @@ module _ (w m : List ℕ) where
   unfolding rootWalk
   walk-none h = rw (eq-eqb _ _ h)
 
-  pub walk-page : (levelsAt w ≡ 0 → ⊥) → pageOf L w (levelsAt w - 1) (rootAt w) (whole (domains w)) (calm (countAt w)) m ≡ rootWalk L w m
+  pub walk-page : (levelsAt w ≡ 0 → ⊥) → pageWalk L w (levelsAt w - 1) (rootAt w) (whole (domains w)) (calm (countAt w)) m ≡ rootWalk L w m
   unfolding rootWalk
   walk-page h = rw (ne-eqb _ _ h)
 

@@ -19,7 +19,7 @@ use Rattle.audit.specs.declared.Seen.{Seen}
 use Rattle.pages.specs.Kinds.{soundPoints, soundRegions}
 use Rattle.pages.proofs.Here.{regions-say}
 use Rattle.pages.proofs.Bits.{case, true-false}
-use Rattle.audit.specs.Walk.{Way, calm, entryByEntry, fresh, leafOf, pageOf}
+use Rattle.audit.specs.Walk.{Way, calm, entryByEntry, fresh, leafOf, pageWalk}
 use Rattle.audit.proofs.Marks.{Marks, done, next, marks-append, marks-nil, marks-split, first}
 
 pub no-recs : (v : Page) → T (isRegions v) → recsIn v ≡ []
@@ -79,16 +79,16 @@ module _ (L : ℕ) (w : List ℕ) where
       zeroes v z = rw z tt
 
   abbrev PageShows : ℕ → Type 0
-  PageShows l = (j : ℕ) (r : Box) (s : Seen) (m : List ℕ) → pageOf L w l j r s m .0 .bad ≡ false
-      → Shown (pagesIn L w) (Good l j r) (reachedFrom L w l j) (pointsOn (reachedFrom L w l j)) s m (pageOf L w l j r s m)
+  PageShows l = (j : ℕ) (r : Box) (s : Seen) (m : List ℕ) → pageWalk L w l j r s m .0 .bad ≡ false
+      → Shown (pagesIn L w) (Good l j r) (reachedFrom L w l j) (pointsOn (reachedFrom L w l j)) s m (pageWalk L w l j r s m)
 
-  entries-show : (l : ℕ) → PageShows l → (es : List Ent) (s : Seen) (m : List ℕ) → entryByEntry (λ e. pageOf L w l (e .child) (e .box)) es s m .0 .bad ≡ false
+  entries-show : (l : ℕ) → PageShows l → (es : List Ent) (s : Seen) (m : List ℕ) → entryByEntry (λ e. pageWalk L w l (e .child) (e .box)) es s m .0 .bad ≡ false
       → Shown (pagesIn L w) (Each (λ e. Good l (e .child) (e .box)) es) (gather (λ e. reachedFrom L w l (e .child)) es)
-      (pointsOn (gather (λ e. reachedFrom L w l (e .child)) es)) s m (entryByEntry (λ e. pageOf L w l (e .child) (e .box)) es s m)
+      (pointsOn (gather (λ e. reachedFrom L w l (e .child)) es)) s m (entryByEntry (λ e. pageWalk L w l (e .child) (e .box)) es s m)
   unfolding entryByEntry
   entries-show l f [] s m h = record { calmly = h; good = tt; marks = done; count = sym (zero-add (s .left)) }
   entries-show l f (e ∷ es) s m h =
-      let u = pageOf L w l (e .child) (e .box) s m in
+      let u = pageWalk L w l (e .child) (e .box) s m in
       let r = entries-show l f es (u .0) (u .1) h in
       let v = f (e .child) (e .box) s m (r .calmly) in
       record {
@@ -108,7 +108,7 @@ module _ (L : ℕ) (w : List ℕ) where
       (λ e. true-false (rw e at h))
 
   pub page-shows : (l : ℕ) → PageShows l
-  unfolding pageOf
+  unfolding pageWalk
   page-shows zero j r s m h =
       case (fresh L w j m s)
       (λ e. let f = fresh-says j m s e in
@@ -135,20 +135,20 @@ module _ (L : ℕ) (w : List ℕ) where
 
   abbrev PageRuns : ℕ → Type 0
   PageRuns l = (j : ℕ) (r : Box) (left left′ : ℕ) (m m′ : List ℕ) → Good l j r → Marks (pagesIn L w) (reachedFrom L w l j) m m′
-      → left ≡ pointsOn (reachedFrom L w l j) + left′ → pageOf L w l j r (calm left) m ≡ (calm left′, m′)
+      → left ≡ pointsOn (reachedFrom L w l j) + left′ → pageWalk L w l j r (calm left) m ≡ (calm left′, m′)
 
   entries-run : (l : ℕ) → PageRuns l → (es : List Ent) (left left′ : ℕ) (m m′ : List ℕ) → Each (λ e. Good l (e .child) (e .box)) es
       → Marks (pagesIn L w) (gather (λ e. reachedFrom L w l (e .child)) es) m m′ → left ≡ pointsOn (gather (λ e. reachedFrom L w l (e .child)) es) + left′
-      → entryByEntry (λ e. pageOf L w l (e .child) (e .box)) es (calm left) m ≡ (calm left′, m′)
+      → entryByEntry (λ e. pageWalk L w l (e .child) (e .box)) es (calm left) m ≡ (calm left′, m′)
   unfolding entryByEntry
   entries-run l f [] left left′ m m′ g r c = let e : left ≡ left′ = omega arith in ap₂ (λ x y. (calm x, y)) e (marks-nil r)
   entries-run l f (e ∷ es) left left′ m m′ g r c =
       let xs = reachedFrom L w l (e .child) in
       let ys = gather (λ d. reachedFrom L w l (d .child)) es in
       let i = marks-split xs ys r in
-      let u : pageOf L w l (e .child) (e .box) (calm left) m ≡ (calm (pointsOn ys + left′), i .0) =
+      let u : pageWalk L w l (e .child) (e .box) (calm left) m ≡ (calm (pointsOn ys + left′), i .0) =
       f (e .child) (e .box) left (pointsOn ys + left′) m (i .0) (g .0) (i .1) (omega (arith, c, sum-append recsAt xs ys)) in
-      ap (λ t. entryByEntry (λ d. pageOf L w l (d .child) (d .box)) es (t .0) (t .1)) u
+      ap (λ t. entryByEntry (λ d. pageWalk L w l (d .child) (d .box)) es (t .0) (t .1)) u
       ∙ entries-run l f es (pointsOn ys + left′) left′ (i .0) m′ (g .1) (i .2) refl
 
   leaf-runs : (j : ℕ) (r : Box) (left left′ : ℕ) → T (soundPoints L w j r) → left ≡ recsAt j + left′ → leafOf L w j r left ≡ calm left′
@@ -159,7 +159,7 @@ module _ (L : ℕ) (w : List ℕ) where
       rw (is-true (soundPoints L w j r) g, le-ltb left (recsAt j) h, e)
 
   pub page-runs : (l : ℕ) → PageRuns l
-  unfolding pageOf
+  unfolding pageWalk
   page-runs zero j r left left′ m m′ g k c =
       let f = first k in
       rw (fresh-is j m left (f .some) (f .page) (f .clear)) (ap₂ (λ x y. (x, y)) (leaf-runs j r left left′ g (omega arith)) (marks-nil (f .more)))

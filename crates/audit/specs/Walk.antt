@@ -16,8 +16,8 @@ use Rattle.pages.specs.Kinds.{soundPoints, soundRegions}
 abbrev pub Way : Type 0
 Way = Seen × List ℕ
 
-abbrev pub spoilt : ℕ → Seen
-spoilt left = record { bad = true; left = left }
+abbrev pub badAfter : ℕ → Seen
+badAfter left = record { bad = true; left = left }
 
 abbrev pub calm : ℕ → Seen
 calm left = record { bad = false; left = left }
@@ -44,19 +44,19 @@ module _ (L : ℕ) (w : List ℕ) where
   unfoldable pub leafOf : ℕ → Box → ℕ → Seen
   leafOf j r left =
       let n = length (recsIn (view L w j)) in
-      cond (soundPoints L w j r) (cond (ltb left n) (spoilt left) (calm (left - n))) (spoilt left)
+      cond (soundPoints L w j r) (cond (ltb left n) (badAfter left) (calm (left - n))) (badAfter left)
 
   -- page j, l levels of region pages above the points, of region r, and all below it
-  unfoldable pub pageOf : ℕ → ℕ → Box → Seen → List ℕ → Way
-  pageOf zero j r s m = cond (fresh j m s) (leafOf j r (s .left), set m j 1) (spoilt (s .left), m)
-  pageOf (suc l) j r s m =
-      let t = entryByEntry (λ e. pageOf l (e .child) (e .box)) (entsIn (view L w j)) (calm (s .left)) (set m j 1) in
-      cond (fresh j m s) (cond (soundRegions L w j r) t (spoilt (s .left), set m j 1)) (spoilt (s .left), m)
+  unfoldable pub pageWalk : ℕ → ℕ → Box → Seen → List ℕ → Way
+  pageWalk zero j r s m = cond (fresh j m s) (leafOf j r (s .left), set m j 1) (badAfter (s .left), m)
+  pageWalk (suc l) j r s m =
+      let t = entryByEntry (λ e. pageWalk l (e .child) (e .box)) (entsIn (view L w j)) (calm (s .left)) (set m j 1) in
+      cond (fresh j m s) (cond (soundRegions L w j r) t (badAfter (s .left), set m j 1)) (badAfter (s .left), m)
 
   -- all that the header's root names
   unfoldable pub rootWalk : List ℕ → Way
   rootWalk m =
-      let t = pageOf (levelsAt w - 1) (rootAt w) (whole (domains w)) (calm (countAt w)) m in
+      let t = pageWalk (levelsAt w - 1) (rootAt w) (whole (domains w)) (calm (countAt w)) m in
       cond (eqb (levelsAt w) 0) (calm (countAt w), m) t
 
   -- page j was met, or is all zero

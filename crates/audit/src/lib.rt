@@ -15,7 +15,7 @@ ghost use Rattle.kdb.specs.Print.{sound};
 ghost use Rattle.kdb.specs.Calls.{L};
 ghost use Rattle.words.specs.Words.{regionAt, Formed, Fit, RegionIn};
 ghost use Rattle.pages.specs.Tests.{PageOf};
-ghost use Rattle.audit.specs.Walk.{freshOf, leafOf, pageOf, rootWalk, clearedOf, restOf};
+ghost use Rattle.audit.specs.Walk.{freshOf, leafOf, pageWalk, rootWalk, clearedOf, restOf};
 
 // What a walk has met: whether a page was bad, and how many points are still to be found.
 pub struct Seen {
@@ -60,7 +60,7 @@ fn page(
     s: Seen,
 ) -> Seen
     requires { ⌜ Fit (now p) f × RegionIn (now q) (f .domains) b ⌝ }
-    ensures { λ r. ⌜ (r, now (met .exit)) ≡ pageOf L (now (p .entry)) (level - 1) j (regionAt (f .domains) (now (q .entry)) b) s (now (met .entry)) ⌝ }
+    ensures { λ r. ⌜ (r, now (met .exit)) ≡ pageWalk L (now (p .entry)) (level - 1) j (regionAt (f .domains) (now (q .entry)) b) s (now (met .entry)) ⌝ }
 {
     let k = f.domains;
     let left = s.left;

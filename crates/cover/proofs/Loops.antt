@@ -11,11 +11,11 @@ use lib.Seq.{getD-take, getD-drop, length-take-le}
 use Rattle.kdb.specs.Box.{Side, Box, sides}
 use Rattle.kdb.proofs.Words.{ent-turn}
 use Rattle.words.specs.Words.{regionAt, RegionIn}
-use Rattle.cover.specs.Boxes.{Row, regionsAt, sideBySide, insideOf, overlap, clearOf, fitting}
+use Rattle.cover.specs.Boxes.{Run, regionsAt, sideBySide, insideOf, overlap, clearOf, fitted}
 
 -- the first of the entries that are left, and those after it
-module _ (w : List ℕ) (d a c e : ℕ) (h : Row w d a (c - e)) (l : e < c) where
-  pub row-next : Row w d (a + d) (c - (e + 1))
+module _ (w : List ℕ) (d a c e : ℕ) (h : Run w d a (c - e)) (l : e < c) where
+  pub row-next : Run w d (a + d) (c - (e + 1))
   row-next =
       let q : c - e ≡ suc (c - (e + 1)) = omega arith in
       record { wide = h .wide; near = h .near; ends = omega (arith, suc-mul (c - (e + 1)) d, rw q at (h .ends)) }
@@ -23,7 +23,7 @@ module _ (w : List ℕ) (d a c e : ℕ) (h : Row w d a (c - e)) (l : e < c) wher
   pub row-first : a + d ≤ length w
   row-first = let r = row-next in omega arith
 
-pub region-first : (w : List ℕ) (k a c e : ℕ) → Row w (2 * k + 1) a (c - e) → e < c → RegionIn w k a
+pub region-first : (w : List ℕ) (k a c e : ℕ) → Run w (2 * k + 1) a (c - e) → e < c → RegionIn w k a
 region-first w k a c e h l = let r = row-first w (2 * k + 1) a c e h l in record { few = omega (arith, h .wide); near = omega (arith, h .near); ends = omega arith }
 
 -- the side in domain i of the region at word a
@@ -81,12 +81,12 @@ regions-end k c e w a l = let q : c - e ≡ 0 = omega arith in rw q
 
 -- the region r held against n regions from word a on, and each of these inside r and held against those after it: the test of them is v
 pub record Clear (w : List ℕ) (k a n : ℕ) (r : Box) (v : Bool) : Type 0 where
-  pub row : Row w (2 * k + 1) a n
+  pub row : Run w (2 * k + 1) a n
   pub rest : clearOf r (regionsAt k n w a) ≡ v
 
 pub record Fits (w : List ℕ) (k a n : ℕ) (r : Box) (v : Bool) : Type 0 where
-  pub row : Row w (2 * k + 1) a n
-  pub rest : fitting r (regionsAt k n w a) ≡ v
+  pub row : Run w (2 * k + 1) a n
+  pub rest : fitted r (regionsAt k n w a) ≡ v
 
 module _ (w : List ℕ) (k a c e : ℕ) (r : Box) (v : Bool) where
   pub clear-end : Clear w k a (c - e) r v → c ≤ e → true ≡ v
@@ -102,7 +102,7 @@ module _ (w : List ℕ) (k a c e : ℕ) (r : Box) (v : Bool) where
   clear-next m l t = record { row = row-next w (2 * k + 1) a c e (m .row) l; rest = rw t at (rw (regions-turn k c e w a l) at (m .rest)) }
 
   module _ (m : Fits w k a (c - e) r v) (l : e < c) where
-    first : (insideOf (regionAt k w a) r && clearOf (regionAt k w a) (regionsAt k (c - (e + 1)) w (a + (2 * k + 1)))) && fitting r (regionsAt k (c - (e + 1)) w (a + (2 * k + 1))) ≡ v
+    first : (insideOf (regionAt k w a) r && clearOf (regionAt k w a) (regionsAt k (c - (e + 1)) w (a + (2 * k + 1)))) && fitted r (regionsAt k (c - (e + 1)) w (a + (2 * k + 1))) ≡ v
     first = rw (regions-turn k c e w a l) at (m .rest)
 
     pub fits-out : insideOf (regionAt k w a) r ≡ false → false ≡ v

@@ -13,7 +13,7 @@ use Rattle.kdb.specs.Tiling.{holders, share, apart, covers, tiles}
 use Rattle.kdb.proofs.Tests.{and-l, and-r, and-i, bool, bool-eq, to-bit, of-bit, of-true, no-bit}
 use Rattle.kdb.proofs.Box.{within-i, within-e}
 use Rattle.kdb.proofs.Tiling.{low, low-in, covers-says, says-covers, tiles-iff, tiles-counted, counted-tiles, solid-of, share-of}
-use Rattle.cover.specs.Boxes.{insideSide, insideOf, overlapSide, overlap, clearOf, fitting}
+use Rattle.cover.specs.Boxes.{insideSide, insideOf, overlapSide, overlap, clearOf, fitted}
 use Rattle.cover.specs.Volume.{volumeOf, volumesOf}
 use Rattle.cover.proofs.Grid.{Under, volumes-most, volumes-each, each-volumes}
 
@@ -114,7 +114,7 @@ record Three (r : Box) (bs : List Box) : Type 0 where
   parted : T (apart bs)
   inner : T (every (covers (r ∷ [])) bs)
 
-fit-three : (r : Box) (bs : List Box) → T (fitting r bs) → Three r bs
+fit-three : (r : Box) (bs : List Box) → T (fitted r bs) → Three r bs
 fit-three r [] t = record { solids = tt; parted = tt; inner = tt }
 fit-three r (e ∷ es) t =
     let h = and-l (insideOf e r && clearOf e es) _ t in
@@ -126,7 +126,7 @@ fit-three r (e ∷ es) t =
       inner = and-i (covers (r ∷ []) e) _ (covered-inside e r i) (m .inner);
     }
 
-three-fit : (r : Box) (bs : List Box) → Three r bs → T (fitting r bs)
+three-fit : (r : Box) (bs : List Box) → Three r bs → T (fitted r bs)
 three-fit r [] m = tt
 three-fit r (e ∷ es) m =
     let s = and-l (solid e) _ (m .solids) in
@@ -135,23 +135,23 @@ three-fit r (e ∷ es) m =
     (and-i (insideOf e r) _ (inside-covered e r s (and-l (covers (r ∷ []) e) _ (m .inner))) (rw (clear-apart e es s ss) (and-l (every (λ c. not (share e c)) es) _ (m .parted))))
     (three-fit r es (record { solids = ss; parted = and-r (every (λ c. not (share e c)) es) _ (m .parted); inner = and-r (covers (r ∷ []) e) _ (m .inner) }))
 
-fit-is : (r : Box) (bs : List Box) → fitting r bs ≡ three r bs
+fit-is : (r : Box) (bs : List Box) → fitted r bs ≡ three r bs
 fit-is r bs =
-    bool-eq (fitting r bs) (three r bs)
+    bool-eq (fitted r bs) (three r bs)
     (λ t. let m = fit-three r bs t in and-i (every solid bs && apart bs) _ (and-i (every solid bs) _ (m .solids) (m .parted)) (m .inner))
     (λ t. let u = and-l (every solid bs && apart bs) _ t in
     three-fit r bs (record { solids = and-l (every solid bs) _ u; parted = and-r (every solid bs) _ u; inner = and-r (every solid bs && apart bs) _ t }))
 
 -- a region with a region inside holds a key
-pub fit-solid : (r : Box) (bs : List Box) → 1 ≤ length bs → T (fitting r bs) → T (solid r)
+pub fit-solid : (r : Box) (bs : List Box) → 1 ≤ length bs → T (fitted r bs) → T (solid r)
 fit-solid r [] h t = absurd (omega arith)
 fit-solid r (e ∷ es) h t = inside-says e r (and-l (insideOf e r) _ (and-l (insideOf e r && clearOf e es) _ t)) .outer
 
-pub tiles-no : (r : Box) (bs : List Box) → fitting r bs ≡ false → false ≡ tiles r bs
+pub tiles-no : (r : Box) (bs : List Box) → fitted r bs ≡ false → false ≡ tiles r bs
 tiles-no r bs e = rw (sym (fit-is r bs) ∙ e)
 
 -- regions that fit: their keys lie in r, and no key in two of them
-fit-under : (r : Box) (bs : List Box) → T (fitting r bs) → Each (λ b. Under b r) bs
+fit-under : (r : Box) (bs : List Box) → T (fitted r bs) → Each (λ b. Under b r) bs
 fit-under r [] t = tt
 fit-under r (e ∷ es) t =
     let h = and-l (insideOf e r && clearOf e es) _ t in
@@ -165,7 +165,7 @@ clear-none e [] p t h = refl
 clear-none e (c ∷ es) p t h =
     omega (arith, no-bit (within c p) (λ g. T-not (overlap e c) (and-l (not (overlap e c)) _ t) (overlap-of e c p h g)), clear-none e es p (and-r (not (overlap e c)) _ t) h)
 
-fit-holders : (r : Box) (bs : List Box) → T (fitting r bs) → (p : Key) → holders bs p ≤ bit (within r p)
+fit-holders : (r : Box) (bs : List Box) → T (fitted r bs) → (p : Key) → holders bs p ≤ bit (within r p)
 fit-holders r [] t p = omega arith
 fit-holders r (e ∷ es) t p =
     let h = and-l (insideOf e r && clearOf e es) _ t in
@@ -173,16 +173,16 @@ fit-holders r (e ∷ es) t p =
     (λ y. omega (arith, to-bit (within e p) y, clear-none e es p (and-r (insideOf e r) _ h) y, to-bit (within r p) (inside-says e r (and-l (insideOf e r) _ h) .keys p y)))
     (λ n. omega (arith, no-bit (within e p) (T-not (within e p) n), fit-holders r es (and-r (insideOf e r && clearOf e es) _ t) p))
 
-pub fit-solids : (r : Box) (bs : List Box) → T (fitting r bs) → T (every solid bs)
+pub fit-solids : (r : Box) (bs : List Box) → T (fitted r bs) → T (every solid bs)
 fit-solids r bs t = fit-three r bs t .solids
 
 -- so they have together at most the keys of r, and all of them exactly if they tile it
-pub fit-volumes : (r : Box) (bs : List Box) → T (fitting r bs) → volumesOf bs ≤ volumeOf r
+pub fit-volumes : (r : Box) (bs : List Box) → T (fitted r bs) → volumesOf bs ≤ volumeOf r
 fit-volumes r bs t = volumes-most r bs (fit-under r bs t) (fit-holders r bs t)
 
-pub fit-tiles : (r : Box) (bs : List Box) → fitting r bs ≡ true → eqb (volumesOf bs) (volumeOf r) ≡ tiles r bs
+pub fit-tiles : (r : Box) (bs : List Box) → fitted r bs ≡ true → eqb (volumesOf bs) (volumeOf r) ≡ tiles r bs
 fit-tiles r bs e =
-    let t = of-true (fitting r bs) e in
+    let t = of-true (fitted r bs) e in
     let u = fit-under r bs t in
     let h = fit-holders r bs t in
     bool-eq (eqb (volumesOf bs) (volumeOf r)) (tiles r bs)

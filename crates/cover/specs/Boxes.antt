@@ -13,7 +13,7 @@ abbrev pub regionsAt : ℕ → ℕ → List ℕ → ℕ → List Box
 regionsAt k n w a = map (λ e. e .box) (readEnts k n (drop a w))
 
 -- count entries of d words from word a on end within the words
-pub record Row (w : List ℕ) (d a count : ℕ) : Type 0 where
+pub record Run (w : List ℕ) (d a count : ℕ) : Type 0 where
   pub wide : d ≤ 9
   pub near : length w < 2 ^ 40
   pub ends : a + count * d ≤ length w
@@ -42,6 +42,6 @@ overlap e c = sideBySide overlapSide e c
 abbrev pub clearOf : Box → List Box → Bool
 clearOf e es = every (λ c. not (overlap e c)) es
 
-abbrev pub fitting : Box → List Box → Bool
-fitting r [] = true
-fitting r (e ∷ es) = (insideOf e r && clearOf e es) && fitting r es
+abbrev pub fitted : Box → List Box → Bool
+fitted r [] = true
+fitted r (e ∷ es) = (insideOf e r && clearOf e es) && fitted r es

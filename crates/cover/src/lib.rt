@@ -9,7 +9,7 @@ ghost use lib.Dec.{T};
 ghost use Rattle.kdb.specs.Box.{solid};
 ghost use Rattle.kdb.specs.Tiling.{tiles};
 ghost use Rattle.words.specs.Words.{regionAt, RegionIn};
-ghost use Rattle.cover.specs.Boxes.{insideOf, overlap, clearOf, fitting, Row, regionsAt};
+ghost use Rattle.cover.specs.Boxes.{insideOf, overlap, clearOf, fitted, Run, regionsAt};
 ghost use Rattle.cover.specs.Volume.{value, volumeOf, Sides};
 
 // The region at word a of p is not empty and lies in the region at word b of q.
@@ -47,7 +47,7 @@ fn share(p: &[u32], k: usize, a: usize, b: usize) -> bool
 
 // None of the `left` regions from word `at` on shares a key with the region at word a.
 fn clear_of(p: &[u32], k: usize, a: usize, at: usize, left: usize) -> bool
-    requires { ⌜ RegionIn (now p) k a × Row (now p) (2 * k + 1) at left ⌝ }
+    requires { ⌜ RegionIn (now p) k a × Run (now p) (2 * k + 1) at left ⌝ }
     ensures { λ r. ⌜ r ≡ clearOf (regionAt k (now (p .entry)) a) (regionsAt k left (now (p .entry)) at) ⌝ }
 {
     let mut b = at;
@@ -64,8 +64,8 @@ fn clear_of(p: &[u32], k: usize, a: usize, at: usize, left: usize) -> bool
 
 // The `count` regions from word `at` on are not empty, lie in the region at word b of q, and share no key.
 fn fit(p: &[u32], k: usize, at: usize, count: usize, q: &[u32], b: usize) -> bool
-    requires { ⌜ Row (now p) (2 * k + 1) at count × RegionIn (now q) k b ⌝ }
-    ensures { λ r. ⌜ r ≡ fitting (regionAt k (now (q .entry)) b) (regionsAt k count (now (p .entry)) at) ⌝ }
+    requires { ⌜ Run (now p) (2 * k + 1) at count × RegionIn (now q) k b ⌝ }
+    ensures { λ r. ⌜ r ≡ fitted (regionAt k (now (q .entry)) b) (regionsAt k count (now (p .entry)) at) ⌝ }
 {
     let mut a = at;
     let mut e: usize = 0;
@@ -152,7 +152,7 @@ fn volume(p: &[u32], k: usize, a: usize) -> Amount
 
 // The `count` regions from word `at` on, which fit in the region at word b of q, have together as many keys.
 fn filled(p: &[u32], k: usize, at: usize, count: usize, q: &[u32], b: usize) -> bool
-    requires { ⌜ Row (now p) (2 * k + 1) at count × (RegionIn (now q) k b × ((1 ≤ count) × ((1 ≤ k) × (fitting (regionAt k (now q) b) (regionsAt k count (now p) at) ≡ true)))) ⌝ }
+    requires { ⌜ Run (now p) (2 * k + 1) at count × (RegionIn (now q) k b × ((1 ≤ count) × ((1 ≤ k) × (fitted (regionAt k (now q) b) (regionsAt k count (now p) at) ≡ true)))) ⌝ }
     ensures { λ r. ⌜ r ≡ tiles (regionAt k (now (q .entry)) b) (regionsAt k count (now (p .entry)) at) ⌝ }
 {
     let mut left = volume(q, k, b);
@@ -168,7 +168,7 @@ fn filled(p: &[u32], k: usize, at: usize, count: usize, q: &[u32], b: usize) -> 
 
 // The `count` regions from word `at` on tile the region at word b of q.
 pub fn tiled(p: &[u32], k: usize, at: usize, count: usize, q: &[u32], b: usize) -> bool
-    requires { ⌜ Row (now p) (2 * k + 1) at count × (RegionIn (now q) k b × ((1 ≤ count) × (1 ≤ k))) ⌝ }
+    requires { ⌜ Run (now p) (2 * k + 1) at count × (RegionIn (now q) k b × ((1 ≤ count) × (1 ≤ k))) ⌝ }
     ensures { λ r. ⌜ r ≡ tiles (regionAt k (now (q .entry)) b) (regionsAt k count (now (p .entry)) at) ⌝ }
 {
     if !fit(p, k, at, count, q, b) {

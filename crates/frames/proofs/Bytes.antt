@@ -12,7 +12,7 @@ use borrow.Author.Tests.{lt-ltb, le-ltb, ne-eqb}
 use Rattle.kdb.specs.Frames.{Reply}
 use Rattle.kdb.proofs.Tests.{bool}
 use Rattle.replies.specs.Reply.{workAfter, Sized, Replied}
-use Rattle.frames.specs.Stream.{Stage, longer, closed, asked, next, said, after, wrote}
+use Rattle.frames.specs.Stream.{Stage, longer, closed, asked, next, said, stageAfter, wrote}
 use Rattle.text.specs.Text.{counted, Written}
 use Rattle.frames.specs.State.{Store, storeOf, stageOf, stored, kept, Stepped, Fed}
 use Rattle.frames.proofs.Stream.{after-append, wrote-append}
@@ -76,7 +76,7 @@ kept-append m (x ∷ a) b = kept-append (stored m x) a b
 -- i bytes of a piece are taken
 pub record Feeding (m : Store) (piece out : List ℕ) (m′ : Store) (out′ : List ℕ) (taken written : ℕ) : Type 0 where
   pub store : m′ ≡ kept m (take taken piece)
-  pub stage : stageOf m′ ≡ after (stageOf m) (take taken piece)
+  pub stage : stageOf m′ ≡ stageAfter (stageOf m) (take taken piece)
   pub text : Written out 0 (wrote (stageOf m) (take taken piece)) out′ written
   pub fits : written ≤ length out
   pub within : taken ≤ length piece
@@ -93,10 +93,10 @@ module _ {m m′ m″ : Store} {piece out out′ out″ : List ℕ} {i at at′ 
       let s = stageOf m in
       let taken = take i piece in
       let more : take (i + 1) piece ≡ taken ++ (b ∷ []) = rw (add-one, e) (take-suc piece i 0 h) in
-      let text : Written out 0 (wrote s taken ++ (said (after s taken) b ++ [])) out″ at′ = rw (append-nil, ← f .stage) (written-then (f .text) (t .text)) in
+      let text : Written out 0 (wrote s taken ++ (said (stageAfter s taken) b ++ [])) out″ at′ = rw (append-nil, ← f .stage) (written-then (f .text) (t .text)) in
       record {
         store = t .store ∙ ap (λ (x : Store). stored x b) (f .store) ∙ sym (ap (kept m) more ∙ kept-append m taken (b ∷ []));
-        stage = t .stage ∙ ap (λ (x : Stage). next x b) (f .stage) ∙ sym (ap (after s) more ∙ after-append s taken (b ∷ []));
+        stage = t .stage ∙ ap (λ (x : Stage). next x b) (f .stage) ∙ sym (ap (stageAfter s) more ∙ after-append s taken (b ∷ []));
         text = rw (more, wrote-append s taken (b ∷ [])) text;
         fits = omega (arith, t .room);
         within = omega arith;

@@ -13,15 +13,15 @@ use Rattle.kdb.specs.Frames.{Reply, reply, lines, session, output}
 use Rattle.kdb.proofs.Tests.{bool, is-true, is-false, and-i}
 use Rattle.kdb.proofs.Lists.{every-append}
 use Rattle.kdb.proofs.Frames.{reply-long, unbroken, lines-break, lines-last}
-use Rattle.frames.specs.Stream.{Stage, start, longer, closed, next, said, after, wrote, fed}
+use Rattle.frames.specs.Stream.{Stage, start, longer, closed, next, said, stageAfter, wrote, fed}
 
-pub after-append : (s : Stage) (a b : List ℕ) → after s (a ++ b) ≡ after (after s a) b
+pub after-append : (s : Stage) (a b : List ℕ) → stageAfter s (a ++ b) ≡ stageAfter (stageAfter s a) b
 after-append s [] b = refl
 after-append s (x ∷ a) b = after-append (next s x) a b
 
-pub wrote-append : (s : Stage) (a b : List ℕ) → wrote s (a ++ b) ≡ wrote s a ++ wrote (after s a) b
+pub wrote-append : (s : Stage) (a b : List ℕ) → wrote s (a ++ b) ≡ wrote s a ++ wrote (stageAfter s a) b
 wrote-append s [] b = refl
-wrote-append s (x ∷ a) b = ap (λ t. said s x ++ t) (wrote-append (next s x) a b) ∙ sym (append-assoc (said s x) (wrote (next s x) a) (wrote (after (next s x) a) b))
+wrote-append s (x ∷ a) b = ap (λ t. said s x ++ t) (wrote-append (next s x) a b) ∙ sym (append-assoc (said s x) (wrote (next s x) a) (wrote (stageAfter (next s x) a) b))
 
 -- the line p as it is held
 abbrev held : List ℕ → Option (List ℕ)
@@ -58,7 +58,7 @@ rest-feed w p input h i =
     ap (session w) (lines-break p input h)
     ∙ ap (λ (q : Reply). q .text ++ session (q .pool) (lines input)) (sym (closed-at w p))
     ∙ ap (λ t. r .text ++ t) (i (r .pool))
-    ∙ sym (append-assoc (r .text) (wrote (at (r .pool) []) input) (closed (after (at (r .pool) []) input) .text))
+    ∙ sym (append-assoc (r .text) (wrote (at (r .pool) []) input) (closed (stageAfter (at (r .pool) []) input) .text))
 
 -- the rest of an input, after the characters p of its line
 rest : (w p input : List ℕ) → T (unbroken p) → session w (lines (p ++ input)) ≡ fed (at w p) (input ∷ [])
@@ -73,7 +73,7 @@ rest w p (b ∷ input) h =
     let nothing : said (at w p) b ≡ [] = rw (is-false (eqb b 10) t) in
     ap (λ q. session w (lines q)) (sym (append-assoc p (b ∷ []) input))
     ∙ rest w more input (every-append (λ a. not (eqb a 10)) p (b ∷ []) h (and-i (not (eqb b 10)) true t tt))
-    ∙ ap₂ (λ (s : Stage) (x : List ℕ). (x ++ wrote s input) ++ closed (after s input) .text) (sym on) (sym nothing))
+    ∙ ap₂ (λ (s : Stage) (x : List ℕ). (x ++ wrote s input) ++ closed (stageAfter s input) .text) (sym on) (sym nothing))
 
 -- the whole input
 pub output-fed : (input : List ℕ) → output input ≡ fed start (input ∷ [])
@@ -84,8 +84,8 @@ pub fed-join : (s : Stage) (pieces : List (List ℕ)) → fed s pieces ≡ fed s
 fed-join s [] = refl
 fed-join s (p ∷ pieces) =
     let joined = gather (λ (x : List ℕ). x) pieces in
-    ap (λ t. wrote s p ++ t) (fed-join (after s p) pieces)
-    ∙ sym (append-assoc (wrote s p) (wrote (after s p) joined) (closed (after (after s p) joined) .text))
+    ap (λ t. wrote s p ++ t) (fed-join (stageAfter s p) pieces)
+    ∙ sym (append-assoc (wrote s p) (wrote (stageAfter s p) joined) (closed (stageAfter (stageAfter s p) joined) .text))
     ∙ ap₂ (λ t u. t ++ closed u .text) (sym (wrote-append s p joined)) (sym (after-append s p joined))
 
 -- fed in pieces cut anywhere

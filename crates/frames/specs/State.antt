@@ -9,7 +9,7 @@ use lib.ListN.{length, take, set}
 use lib.Seq.{sets}
 use Rattle.text.specs.Text.{counted, Written}
 use Rattle.replies.specs.Reply.{workAfter}
-use Rattle.frames.specs.Stream.{Stage, closed, asked, next, said, after, wrote}
+use Rattle.frames.specs.Stream.{Stage, closed, asked, next, said, stageAfter, wrote}
 
 -- all that is kept between two bytes: the pool's words, the characters of the line so far, and the three buffers
 pub record Store : Type 0 where
@@ -55,7 +55,7 @@ pub record Stepped (m : Store) (b : ℕ) (out : List ℕ) (at : ℕ) (m′ : Sto
 -- all that is kept, and the output, after as many bytes of a piece as were taken: all, unless less than an answer's room is left
 pub record Fed (m : Store) (piece out : List ℕ) (m′ : Store) (out′ : List ℕ) (taken written : ℕ) : Type 0 where
   pub store : m′ ≡ kept m (take taken piece)
-  pub stage : stageOf m′ ≡ after (stageOf m) (take taken piece)
+  pub stage : stageOf m′ ≡ stageAfter (stageOf m) (take taken piece)
   pub text : Written out 0 (wrote (stageOf m) (take taken piece)) out′ written
   pub fits : written ≤ length out
   pub within : taken ≤ length piece

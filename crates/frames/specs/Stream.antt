@@ -36,9 +36,9 @@ next s b = cond (eqb b 10) (record { pool = closed s .pool; line = some [] }) (r
 unfoldable pub said : Stage → ℕ → List ℕ
 said s b = cond (eqb b 10) (closed s .text) []
 
-abbrev pub after : Stage → List ℕ → Stage
-after s [] = s
-after s (b ∷ bs) = after (next s b) bs
+abbrev pub stageAfter : Stage → List ℕ → Stage
+stageAfter s [] = s
+stageAfter s (b ∷ bs) = stageAfter (next s b) bs
 
 abbrev pub wrote : Stage → List ℕ → List ℕ
 wrote s [] = []
@@ -47,4 +47,4 @@ wrote s (b ∷ bs) = said s b ++ wrote (next s b) bs
 -- an input that comes in pieces: each piece's bytes, and the last line's answer at the end
 abbrev pub fed : Stage → List (List ℕ) → List ℕ
 fed s [] = closed s .text
-fed s (piece ∷ pieces) = wrote s piece ++ fed (after s piece) pieces
+fed s (piece ∷ pieces) = wrote s piece ++ fed (stageAfter s piece) pieces

@@ -1,4 +1,4 @@
--- The frame program does what its client is answerLine: a line that is written as specs/Client.antt says is read back as the call it asks for.
+-- The frame program does what its client is told: a line that is written as specs/Client.antt says is read back as the call it asks for.
 use mathlib.Core.Bool.{Bool, true, false, _||_, not, cond}
 use mathlib.Core.List.{List, [], _∷_, _++_, map, append-assoc, append-nil}
 use mathlib.Core.Option.{Option, none, some}

@@ -36,11 +36,6 @@ module _ {ℓ} {A : Type ℓ} where
       go true e = omega arith
       go false e = omega arith
 
-  -- tests that agree count alike
-  pub tally-same : (f g : A → Bool) → ((a : A) → f a ≡ g a) → (l : List A) → tally f l ≡ tally g l
-  tally-same f g e [] = refl
-  tally-same f g e (a ∷ l) = ap₂ (λ x y. bit x + y) (e a) (tally-same f g e l)
-
 pub many-append : (c : ℕ) (l m : List ℕ) → many c (l ++ m) ≡ many c l + many c m
 many-append c l m = tally-append (eqb c) l m
 

@@ -1,5 +1,5 @@
--- That each row of the table is lawful: what the general statements about calls need of a call. A new call needs its row, and its clause
--- of `lawful`.
+-- That each row of the table is lawful: what the general statements about calls need of a call. A new call needs its row, its clause of
+-- `makes`, and its clause of `lawful`.
 use mathlib.Core.Bool.{Bool, true, false, _&&_, _||_, not, cond}
 use mathlib.Core.List.{List, [], _∷_, _++_}
 use mathlib.Core.Option.{Option, none, some}

@@ -6,7 +6,7 @@ use Prim.Native.Nat.{ℕ, zero, suc, _+_, _-_, _<_, _≤_}
 use native.Mathlib.Omega.{arith}
 use lib.Dec.{T, leb, eqb, eqb→eq}
 use native.Mathlib.Nat.{zero-add, suc-add, add-zero}
-use lib.ListN.{length, take, drop, getD, length-append, take-append-drop, set, replicate, drop-of-length-le}
+use lib.ListN.{length, take, drop, length-append, take-append-drop, set, replicate, drop-of-length-le}
 use lib.Seq.{take-at, sets, sets-eq, set-out, set-comm, take-all, length-take-le}
 use borrow.Author.Tests.{leb-true, leb-false}
 use Rattle.kdb.specs.Lists.{every, pad}
@@ -32,13 +32,6 @@ zeros-pad (a ∷ l) (suc n) h z = ap₂ _∷_ (sym (eqb→eq 0 a (and-l (eqb 0 a
 pub pad-zeros : (n : ℕ) → T (every (eqb 0) (pad n []))
 pad-zeros zero = tt
 pad-zeros (suc n) = pad-zeros n
-
-pub getD-pad : (n : ℕ) (ws : List ℕ) (i : ℕ) → i < n → getD (pad n ws) i 0 ≡ getD ws i 0
-getD-pad zero ws i h = absurd (omega arith)
-getD-pad (suc n) [] zero h = refl
-getD-pad (suc n) [] (suc i) h = getD-pad n [] i (omega arith)
-getD-pad (suc n) (a ∷ ws) zero h = refl
-getD-pad (suc n) (a ∷ ws) (suc i) h = getD-pad n ws i (omega arith)
 
 module _ {ℓ} {A : Type ℓ} where
   pub set-append-add : (xs ys : List A) (n : ℕ) (a : A) → set (xs ++ ys) (length xs + n) a ≡ xs ++ set ys n a

@@ -1,5 +1,6 @@
 -- The six calls: document 01, "What each call answers". Each is a function from the pool's words and the call to its outcome: the number,
--- the returned values, and every word of pool, work buffer and answer buffer afterwards. `row` is the table: all that is special to a call.
+-- the returned values, and every word of pool, work buffer and answer buffer afterwards. `row` is the table: all that is special to a call
+-- but what it makes of the index (`makes` in History.antt).
 use mathlib.Core.Bool.{Bool, true, false, _&&_, not, cond}
 use mathlib.Core.List.{List, [], _∷_, _++_, map}
 use mathlib.Core.Option.{Option, none, some}

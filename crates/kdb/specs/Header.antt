@@ -1,5 +1,5 @@
--- A pool's header: document 01, "Pool layout". `printHeader` gives the words of page 0 and `readHeader` reads them back. Nothing else in the
--- definitions knows where a word of the header stands.
+-- A pool's header: document 01, "Pool layout". `printHeader` gives the words of page 0 and `readHeader` reads them back. Nothing else knows
+-- where a word of the header stands but the statements that say it once more (`GoodHeader`, `Formatted`, `SameSize`).
 use mathlib.Core.List.{List, [], _∷_}
 use Prim.Native.Nat.{ℕ}
 use lib.ListN.{getD}

@@ -39,7 +39,7 @@ makes (remove p) = dropped p
 makes (find p) = unchanged
 makes (list v answer) = unchanged
 
--- of the live records
+-- what an effect makes of the live records
 abbrev pub change : Effect → List Rec → List Rec
 change unchanged rs = rs
 change (emptied k) rs = []

@@ -7,7 +7,7 @@ use mathlib.Core.Path.{_≡_}
 use mathlib.Core.Logic.{_↔_}
 use Prim.Native.Nat.{ℕ, zero, suc, _-_, _*_, _/_, _%_, _≤_, _<_}
 use lib.Dec.{T, leb, ltb, eqb}
-use lib.ListN.{length, drop}
+use lib.ListN.{length, drop, getD}
 use Rattle.kdb.specs.Lists.{bit, every, Each, gather, sum, many, upFrom}
 use Rattle.kdb.specs.Box.{∞, Box, whole, within, solid}
 use Rattle.kdb.specs.Tiling.{Apart, Together}
@@ -52,19 +52,19 @@ module _ (L : ℕ) where
   unfoldable pub goodHeader : List ℕ → Bool
   goodHeader w = goodWords (pagesIn w) (readHeader w) && every (eqb 0) (drop 5 (page L w 0))
 
-  -- the same, sentence by sentence
+  -- the same, sentence by sentence and by the numbers of the words
   pub record GoodLength (w : List ℕ) : Type 0 where
     pub long : length w ≡ L * pagesIn w
     pub least : 2 ≤ pagesIn w
     pub most : pagesIn w ≤ 512
 
   pub record GoodHeader (w : List ℕ) : Type 0 where
-    pub least : 1 ≤ domains w
-    pub most : domains w ≤ 4
-    pub size : readHeader w .pages ≡ pagesIn w
-    pub root : rootAt w < pagesIn w
-    pub levels : levelsAt w ≤ pagesIn w - 1
-    pub both : bit (eqb (rootAt w) 0) ≡ bit (eqb (levelsAt w) 0)
+    pub least : 1 ≤ getD w 0 0
+    pub most : getD w 0 0 ≤ 4
+    pub size : getD w 1 0 ≡ pagesIn w
+    pub root : getD w 2 0 < pagesIn w
+    pub levels : getD w 3 0 ≤ pagesIn w - 1
+    pub both : bit (eqb (getD w 2 0) 0) ≡ bit (eqb (getD w 3 0) 0)
     pub zeros : T (every (eqb 0) (drop 5 (page L w 0)))
 
   -- j is a number from 1 to N − 1

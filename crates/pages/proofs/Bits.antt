@@ -18,7 +18,7 @@ use Rattle.kdb.specs.Shape.{differ}
 use Rattle.kdb.proofs.Tests.{and-l, and-r, and-i, bool, is-true, is-false, of-true, no-bit}
 use Rattle.kdb.proofs.Lists.{same-eq, each-map}
 use Rattle.kdb.proofs.Words.{recAt, rec-turn}
-use Rattle.cover.specs.Boxes.{Row}
+use Rattle.cover.specs.Boxes.{Run}
 use Rattle.pages.specs.Tests.{recKey, unlike}
 use Rattle.pages.proofs.Slots.{key-here}
 
@@ -73,11 +73,11 @@ tail-differ (suc e) m w k a t =
 pub record Done (w : List ℕ) (k at count : ℕ) (t : List ℕ) (a e : ℕ) : Type 0 where
   pub most : e ≤ count
   pub from : a ≡ at + e * (k + 1)
-  pub row : Row w (k + 1) a (count - e)
+  pub row : Run w (k + 1) a (count - e)
   pub good : T (differ (readRecs k (count - e) (drop a w)))
   pub marks : Marked t (readRecs k (count - e) (drop a w))
 
-pub done-none : (w : List ℕ) (k at count : ℕ) (t : List ℕ) → Row w (k + 1) at count → length t ≡ 128 → Done w k at count t (at + count * (k + 1)) count
+pub done-none : (w : List ℕ) (k at count : ℕ) (t : List ℕ) → Run w (k + 1) at count → length t ≡ 128 → Done w k at count t (at + count * (k + 1)) count
 done-none w k at count t r h =
     let z : count - count ≡ 0 = omega arith in
     record {
@@ -107,7 +107,7 @@ module _ (w : List ℕ) (k at count : ℕ) (t : List ℕ) (a e : ℕ) (m : Done 
     pub back-room : k + 1 ≤ a
     back-room = omega (arith, m .from, back)
 
-    pub back-row : (n : ℕ) → n ≡ count - (e - 1 + 1) → Row w (k + 1) b (n + 1)
+    pub back-row : (n : ℕ) → n ≡ count - (e - 1 + 1) → Run w (k + 1) b (n + 1)
     back-row n q =
         let z : n + 1 ≡ suc (count - e) = omega (arith, m .most) in
         record { wide = m .row .wide; near = m .row .near; ends = omega (arith, back-room, m .row .ends, ap (λ (x : ℕ). x * (k + 1)) z ∙ suc-mul (count - e) (k + 1)) }

@@ -25,7 +25,7 @@ use Rattle.kdb.proofs.Words.{page-rest, seen, good-points, good-regions, points
 use Rattle.words.specs.Words.{wordAt, Formed, Fit, allZero}
 use Rattle.words.proofs.Laws.{pages}
 use Rattle.words.proofs.Loops.{every-by, keys-by}
-use Rattle.cover.specs.Boxes.{regionsAt, Row}
+use Rattle.cover.specs.Boxes.{regionsAt, Run}
 use Rattle.pages.specs.Tests.{headOf, PageOf}
 use Rattle.pages.specs.Kinds.{laidOut, soundPoints, soundRegions}
 use Rattle.pages.proofs.Laying.{recs-words, ents-words, layout-iff}
@@ -211,7 +211,7 @@ module _ (w : List ℕ) (f : Form) (j : ℕ) (h : Fit w f) (i : PageOf f j) wher
 
     -- the c entries of a region page, from its word 4 on
     pub entries-of : (c : ℕ) → c ≡ wordAt w j 1 → soundRegions L w j r ≡ true
-        → Row w (2 * k′ + 1) (L * j + 4) (c - 0) × (readEnts k′ c (drop (L * j + 4) w) ≡ entsIn (view L w j))
+        → Run w (2 * k′ + 1) (L * j + 4) (c - 0) × (readEnts k′ c (drop (L * j + 4) w) ≡ entsIn (view L w j))
     entries-of c q t =
         let x = regions-in L w j (omega arith) (is-page w f j (h .formed) i) (regions-good w f j (h .formed) i r (of-true (soundRegions L w j r) t)) in
         let m : c * (2 * k′ + 1) ≤ L - 4 = rw (q, ← h .says) (x .1) in

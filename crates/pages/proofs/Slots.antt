@@ -18,7 +18,7 @@ use Rattle.kdb.proofs.Tests.{and-assoc, and-swap, and-false}
 use Rattle.kdb.proofs.Pages.{recs-keys}
 use Rattle.kdb.proofs.Words.{rec-turn}
 use Rattle.words.specs.Words.{regionAt, RegionIn}
-use Rattle.cover.specs.Boxes.{Row}
+use Rattle.cover.specs.Boxes.{Run}
 use Rattle.cover.proofs.Loops.{row-first, row-next, sideAt, side-turn, side-end}
 use Rattle.pages.specs.Tests.{recKey, keyInside, columnIn, unlike, PointIn}
 
@@ -67,11 +67,11 @@ module _ (w : List ℕ) (k a b d : ℕ) (v : Bool) (m : Twin w k a b d v) where
 
 -- n points from word a on: the test of their keys in domain d, and of their keys against x, is v
 pub record Column (w : List ℕ) (k a n d : ℕ) (s : Side) (v : Bool) : Type 0 where
-  pub row : Row w (k + 1) a n
+  pub row : Run w (k + 1) a n
   pub rest : columnIn d s (readRecs k n (drop a w)) ≡ v
 
 pub record Unlike (w : List ℕ) (k a n : ℕ) (x : Key) (v : Bool) : Type 0 where
-  pub row : Row w (k + 1) a n
+  pub row : Run w (k + 1) a n
   pub rest : unlike x (readRecs k n (drop a w)) ≡ v
 
 recs-end : (k c e : ℕ) (w : List ℕ) (a : ℕ) → c ≤ e → readRecs k (c - e) (drop a w) ≡ []
@@ -120,7 +120,7 @@ module _ (k d : ℕ) where
 
 -- the test of n points from word a on, from domain d on, is v
 pub record Lying (k : ℕ) (p : List ℕ) (a n : ℕ) (q : List ℕ) (b d : ℕ) (v : Bool) : Type 0 where
-  pub row : Row p (k + 1) a n
+  pub row : Run p (k + 1) a n
   pub region : RegionIn q k b
   pub rest : every (λ x. within (drop d (regionAt k q b)) (drop d (x .key))) (readRecs k n (drop a p)) ≡ v
 
@@ -141,13 +141,13 @@ module _ (k : ℕ) (p : List ℕ) (a n : ℕ) (q : List ℕ) (b d : ℕ) (v : Bo
     pub lying-next : columnIn d (sideAt q k b d) (readRecs k n (drop a p)) ≡ true → Lying k p a n q b (d + 1) v
     lying-next t = record { row = m .row; region = m .region; rest = rw t at column }
 
-pub point-first : (w : List ℕ) (k a c e : ℕ) → Row w (k + 1) a (c - e) → e < c → PointIn w k a
+pub point-first : (w : List ℕ) (k a c e : ℕ) → Run w (k + 1) a (c - e) → e < c → PointIn w k a
 point-first w k a c e h l = let r = row-first w (k + 1) a c e h l in record { near = omega (arith, h .near); few = omega (arith, h .wide); ends = omega arith }
 
 -- the first of one point and n more, and those
-pub point-all : (w : List ℕ) (k a n : ℕ) → Row w (k + 1) a (n + 1) → PointIn w k a × Row w (k + 1) (a + (k + 1)) n
+pub point-all : (w : List ℕ) (k a n : ℕ) → Run w (k + 1) a (n + 1) → PointIn w k a × Run w (k + 1) (a + (k + 1)) n
 point-all w k a n h =
     let q : n + 1 - 0 ≡ n + 1 = omega arith in
     let z : n + 1 - (0 + 1) ≡ n = omega arith in
-    let r : Row w (k + 1) a (n + 1 - 0) = rw q h in
+    let r : Run w (k + 1) a (n + 1 - 0) = rw q h in
     (point-first w k a (n + 1) 0 r (omega arith), rw z at (row-next w (k + 1) a (n + 1) 0 r (omega arith)))

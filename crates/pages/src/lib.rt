@@ -17,13 +17,13 @@ ghost use Rattle.kdb.specs.Pages.{readRecs};
 ghost use Rattle.kdb.specs.Shape.{differ};
 ghost use Rattle.kdb.specs.Calls.{L};
 ghost use Rattle.words.specs.Words.{regionAt, Formed, Fit, RegionIn};
-ghost use Rattle.cover.specs.Boxes.{Row};
+ghost use Rattle.cover.specs.Boxes.{Run};
 ghost use Rattle.pages.specs.Tests.{recKey, columnIn, unlike, headOf, PageOf, PointIn};
 ghost use Rattle.pages.specs.Kinds.{soundPoints, soundRegions};
 
 // The keys in domain d of the `count` points from word `at` on are at least lo and below hi.
 fn side_holds(p: &[u32], k: usize, at: usize, count: usize, d: usize, lo: usize, hi: usize) -> bool
-    requires { ⌜ Row (now p) (k + 1) at count × (d < k) ⌝ }
+    requires { ⌜ Run (now p) (k + 1) at count × (d < k) ⌝ }
     ensures { λ r. ⌜ r ≡ columnIn d (record { lo = lo; hi = hi }) (readRecs k count (drop at (now (p .entry)))) ⌝ }
 {
     let mut a = at;
@@ -44,7 +44,7 @@ fn side_holds(p: &[u32], k: usize, at: usize, count: usize, d: usize, lo: usize,
 
 // The `count` points from word `at` on lie in the region at word b of q.
 fn all_hold(p: &[u32], k: usize, at: usize, count: usize, q: &[u32], b: usize) -> bool
-    requires { ⌜ Row (now p) (k + 1) at count × RegionIn (now q) k b ⌝ }
+    requires { ⌜ Run (now p) (k + 1) at count × RegionIn (now q) k b ⌝ }
     ensures { λ r. ⌜ r ≡ every (λ x. within (regionAt k (now (q .entry)) b) (x .key)) (readRecs k count (drop at (now (p .entry)))) ⌝ }
 {
     let mut d: usize = 0;
@@ -82,7 +82,7 @@ fn twins(p: &[u32], k: usize, a: usize, b: usize) -> bool
 
 // None of the `left` points from word `at` on has the keys of the one at word a.
 fn differs(p: &[u32], k: usize, a: usize, at: usize, left: usize) -> bool
-    requires { ⌜ PointIn (now p) k a × Row (now p) (k + 1) at left ⌝ }
+    requires { ⌜ PointIn (now p) k a × Run (now p) (k + 1) at left ⌝ }
     ensures { λ r. ⌜ r ≡ unlike (recKey k (now (p .entry)) a) (readRecs k left (drop at (now (p .entry)))) ⌝ }
 {
     let mut b = at;
@@ -99,7 +99,7 @@ fn differs(p: &[u32], k: usize, a: usize, at: usize, left: usize) -> bool
 
 // The point at word a is none of the `left` after it, if one of them may have its first key; else it is told so.
 fn alone_if(p: &[u32], k: usize, a: usize, left: usize, met: bool) -> bool
-    requires { ⌜ Row (now p) (k + 1) a (left + 1) ⌝ }
+    requires { ⌜ Run (now p) (k + 1) a (left + 1) ⌝ }
     ensures { λ r. ⌜ r ≡ cond met (unlike (recKey k (now (p .entry)) a) (readRecs k left (drop (a + (k + 1)) (now (p .entry))))) true ⌝ }
 {
     if met {
@@ -111,7 +111,7 @@ fn alone_if(p: &[u32], k: usize, a: usize, left: usize, met: bool) -> bool
 // No two of the `count` points from word `at` on have the same keys. From the last point to the first; a mark for the last seven bits of each
 // first key, so that most are not held against any other.
 fn distinct(p: &[u32], k: usize, at: usize, count: usize) -> bool
-    requires { ⌜ Row (now p) (k + 1) at count × (1 ≤ k) ⌝ }
+    requires { ⌜ Run (now p) (k + 1) at count × (1 ≤ k) ⌝ }
     ensures { λ r. ⌜ r ≡ differ (readRecs k count (drop at (now (p .entry)))) ⌝ }
 {
     let mut marks: [u8; 128] = [0; 128];

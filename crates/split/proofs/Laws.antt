@@ -16,23 +16,23 @@ use Rattle.kdb.proofs.Stores.{sets-all}
 use Rattle.kdb.proofs.Pages.{page-full}
 use Rattle.steps.specs.Machine.{Passed, Claimed, word, freshIn, appendIn}
 use Rattle.steps.specs.Claim.{claimIn}
-use Rattle.steps.specs.Split.{pointsIn, entriesIn, partPoints, partRegions, splitIn, through}
+use Rattle.steps.specs.Split.{pointsIn, entriesIn, partPoints, partRegions, splitIn, reported}
 use Rattle.deal.specs.Part.{claimed, openIn, bothIn}
 use Rattle.deal.proofs.Laws.{after-open}
 use Rattle.split.specs.Part.{passed}
 
 -- what follows where the right page was claimed
 module _ (n k d x : ℕ) (below : ℕ → List ℕ → Claimed) (m e j : ℕ) (src w v : List ℕ) (r : ℕ) (h : claimed r v ≡ openIn n 1 e j w) where
-  regions-open : cond (eqb r 0) (claimed r v) (through L n k d x r (entriesIn L k d x below m src 4 j r v)) ≡ partRegions L n k d x below src m e j w
+  regions-open : cond (eqb r 0) (claimed r v) (reported L n k d x r (entriesIn L k d x below m src 4 j r v)) ≡ partRegions L n k d x below src m e j w
   unfolding openIn partRegions
-  regions-open = after-open (λ u. freshIn L u j 1 e) (λ q u. through L n k d x q (entriesIn L k d x below m src 4 j q u)) (claimIn L n 1 e w) r v h
+  regions-open = after-open (λ u. freshIn L u j 1 e) (λ q u. reported L n k d x q (entriesIn L k d x below m src 4 j q u)) (claimIn L n 1 e w) r v h
 
   pub regions-none : r ≡ 0 → claimed 0 v ≡ partRegions L n k d x below src m e j w
   regions-none z = ap (λ i. claimed i v) (sym z) ∙ (rw (eq-eqb r 0 z) at regions-open)
 
   module _ (z : r ≡ 0 → ⊥) (ok : Bool) (u : List ℕ) (g : passed ok u ≡ entriesIn L k d x below m src 4 j r v) where
-    regions-some : through L n k d x r (passed ok u) ≡ partRegions L n k d x below src m e j w
-    regions-some = ap (through L n k d x r) g ∙ (rw (ne-eqb r 0 z) at regions-open)
+    regions-some : reported L n k d x r (passed ok u) ≡ partRegions L n k d x below src m e j w
+    regions-some = ap (reported L n k d x r) g ∙ (rw (ne-eqb r 0 z) at regions-open)
 
     pub regions-whole : ok ≡ true → claimed r u ≡ partRegions L n k d x below src m e j w
     regions-whole t = rw t at regions-some

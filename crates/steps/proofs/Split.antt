@@ -24,7 +24,7 @@ use Rattle.kdb.proofs.Tiling.{lies-case, keep, parts, part-length}
 use Rattle.kdb.proofs.Pages.{ent-length, word-at}
 use Rattle.steps.specs.Machine.{Passed, Claimed, word, freshIn, appendIn}
 use Rattle.steps.specs.Claim.{claimIn}
-use Rattle.steps.specs.Split.{pointsIn, entriesIn, partPoints, through, partRegions, splitIn}
+use Rattle.steps.specs.Split.{pointsIn, entriesIn, partPoints, reported, partRegions, splitIn}
 use Rattle.steps.proofs.Entry.{ent, entry-lower, entry-upper, entry-child, entry-left, entry-right, words-at, words-after, word-in}
 use Rattle.steps.proofs.Held.{Holds, HoldsF, frame, frameF, Keys, Fits, FitsF, records-length, entries-length, size-ents, size-boxes}
 use Rattle.steps.proofs.Claim.{Free, claim-none, claim-some}
@@ -317,7 +317,7 @@ module _ (L N k d x : ℕ) (below : ℕ → List ℕ → Claimed) (src : List �
     points-parted h = rw (h, ne-eqb r 0 (λ z. omega arith))
 
     regions-parted : claimIn L N 1 e w ≡ record { page = r; words = w1 }
-        → partRegions L N k d x below src m e j w ≡ through L N k d x r (entriesIn L k d x below m src 4 j r (freshIn L w1 j 1 e))
+        → partRegions L N k d x below src m e j w ≡ reported L N k d x r (entriesIn L k d x below m src 4 j r (freshIn L w1 j 1 e))
     unfolding partRegions
     regions-parted h = rw (h, ne-eqb r 0 (λ z. omega arith))
 
@@ -381,7 +381,7 @@ module _ (L N k d x R P : ℕ) (big : 4 ≤ L) (low : d < k) (fitR : 4 + R * (2 
       rw (regions-parted L N k d x (splitIn L N k d x n) src m e p w r w0 (g .low) (g .is)) (go (splitF k d x f free) v w1 s (o .keep) (o .long) (g .low))
     where
       go : (s : Option TwoF) (v : Passed) (w1 : List ℕ) → OutcomeF L N w1 f free p r e 0 [] 0 [] s v → ((c : ℕ) → bit (eqb c p) + bit (eqb c r) ≡ 0 → page L w1 c ≡ page L w c) → length w1 ≡ length w → 1 ≤ r
-          → Outcome L N w (node p d₀ f) (r ∷ free) (andThen s (λ h. some (record { lt = node p e (h .lt); rt = node r e (h .rt); free = h .free }))) (through L N k d x r v)
+          → Outcome L N w (node p d₀ f) (r ∷ free) (andThen s (λ h. some (record { lt = node p e (h .lt); rt = node r e (h .rt); free = h .free }))) (reported L N k d x r v)
       go none v w1 s keep long more = rw s
       go (some a) v w1 s keep long more =
           let z : Two = record { lt = node p e (a .lt); rt = node r e (a .rt); free = a .free } in
@@ -398,7 +398,7 @@ module _ (L N k d x R P : ℕ) (big : 4 ≤ L) (low : d < k) (fitR : 4 + R * (2 
             keep = λ c i. s .keep c (omega arith) ∙ keep c (omega arith);
             long = s .long ∙ long;
           } in
-          let b : record { page = r; words = v .words } ≡ through L N k d x r v = rw (s .ok) in
+          let b : record { page = r; words = v .words } ≡ reported L N k d x r v = rw (s .ok) in
           subst (λ y. Splits L N w (node p d₀ f) (r ∷ free) z y) b u
 
   on-leaf : (p e : ℕ) (rs : List Rec) (w free : List ℕ) → (length rs ≤ P) × Keys k rs → page L w p ≡ printPage L (points e rs) → Free L N w free → ((c : ℕ) → many c (p ∷ []) + many c free ≤ 1)

@@ -44,14 +44,14 @@ module _ (L N k d x : ℕ) where
       cond (eqb (r .page) 0) r parted
 
   -- the page split off, unless a page was wanting on the way
-  abbrev pub through : ℕ → Passed → Claimed
-  through r o = cond (o .ok) (record { page = r; words = o .words }) (record { page = 0; words = o .words })
+  abbrev pub reported : ℕ → Passed → Claimed
+  reported r o = cond (o .ok) (record { page = r; words = o .words }) (record { page = 0; words = o .words })
 
   -- the m entries of src, from word 4 on, likewise
   unfoldable pub partRegions : (ℕ → List ℕ → Claimed) → List ℕ → ℕ → ℕ → ℕ → List ℕ → Claimed
   partRegions below src m e j w =
       let r = claimIn L N 1 e w in
-      let parted = through (r .page) (entriesIn L k d x below m src 4 j (r .page) (freshIn L (r .words) j 1 e)) in
+      let parted = reported (r .page) (entriesIn L k d x below m src 4 j (r .page) (freshIn L (r .words) j 1 e)) in
       cond (eqb (r .page) 0) r parted
 
   -- the forced split of page j, n levels above the point pages

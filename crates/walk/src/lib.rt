@@ -162,6 +162,17 @@ fn may_read(f: Form, j: usize, s: Tally) -> bool
     is_page(f, j) & (s.reads + 1 < f.pages)
 }
 
+// A walk that has stopped.
+fn stopped(reads: usize, total: usize) -> Tally
+    ensures { λ r. ⌜ r ≡ record { reads = reads; total = total; bad = true } ⌝ }
+{
+    Tally {
+        reads,
+        total,
+        bad: true,
+    }
+}
+
 // 1 where it holds, else 0.
 fn one(holds: bool) -> usize
     ensures { λ r. ⌜ (r ≡ bit holds) × (r ≤ 1) ⌝ }
@@ -228,19 +239,11 @@ fn list_leaf(pool: &[u32], f: Form, window: &[u32], answer: &mut [u32], j: usize
 {
     let total = s.total;
     if !may_read(f, j, s) {
-        return Tally {
-            reads: s.reads,
-            total,
-            bad: true,
-        };
+        return stopped(s.reads, total);
     }
     let reads = s.reads + 1;
     if !point_page(pool, f, j) {
-        return Tally {
-            reads,
-            total,
-            bad: true,
-        };
+        return stopped(reads, total);
     }
     Tally {
         reads,
@@ -305,11 +308,7 @@ fn list_page(
     ensures { λ r. ⌜ (seen r (now (answer .exit)) ≡ movedBy (f .pages) (seen s (now (answer .entry))) (tour L (now (pool .entry)) (windowOf (f .domains) (now (window .entry))) (level - 1) j)) × Kept (f .pages) r ⌝ }
 {
     if !may_read(f, j, s) {
-        return Tally {
-            reads: s.reads,
-            total: s.total,
-            bad: true,
-        };
+        return stopped(s.reads, s.total);
     }
     let mut t = Tally {
         reads: s.reads + 1,
@@ -317,11 +316,7 @@ fn list_page(
         bad: false,
     };
     if !region_page(pool, f, j) {
-        return Tally {
-            reads: t.reads,
-            total: t.total,
-            bad: true,
-        };
+        return stopped(t.reads, t.total);
     }
     let mut child = [0u32; 9];
     let m = meeting(pool, f, window, j, &mut child);

@@ -1,4 +1,4 @@
--- Where the records of a point page stand: the one place that knows how far a slot is from the next.
+-- Where the records of a point page stand, for those who read single keys: how far a slot is from the next is known here.
 use mathlib.Core.List.{List, [], _∷_}
 use mathlib.Core.Path.{_≡_, sym, ap, _∙_}
 use Prim.Native.Nat.{ℕ, suc, _+_, _-_, _*_, _<_, _≤_}

@@ -1,6 +1,6 @@
 -- The words that the accessors give, over a whole pool. A word past the end is 0.
 use mathlib.Core.Bool.{Bool, true, cond}
-use mathlib.Core.List.{List, [], _∷_}
+use mathlib.Core.List.{List}
 use mathlib.Core.Path.{_≡_}
 use Prim.Native.Nat.{ℕ, zero, suc, _+_, _-_, _*_, _^_, _≤_, _<_}
 use lib.Dec.{eqb}
@@ -34,7 +34,7 @@ pub record Formed (w : List ℕ) (f : Form) : Type 0 where
   pub some : 1 ≤ f .domains
   pub few : f .domains ≤ 4
 
--- and its header says so
+-- and its header says its domains
 pub record Fit (w : List ℕ) (f : Form) : Type 0 where
   pub formed : Formed w f
   pub says : domains w ≡ f .domains

@@ -7,7 +7,7 @@ use borrow.Author.Tests.{not-true, not-false}
 use Rattle.kdb.specs.Calls.{L}
 use Rattle.kdb.specs.Pool.{view}
 use Rattle.kdb.specs.Pages.{entsIn, readEnts}
-use Rattle.audit.specs.Walk.{entryByEntry, pageOf}
+use Rattle.audit.specs.Walk.{entryByEntry, pageWalk}
 use Rattle.pages.proofs.OnePage.{entries-of}
 use Rattle.words.specs.Words.{RegionIn}
 use Rattle.cover.specs.Boxes.{Row}
@@ -42,7 +42,7 @@ abbrev page-calls : ℕ → page-lts.Claims
 page-calls t = (fresh-reads.Asked, fresh-reads.Learnt, put-reads.Asked, put-reads.Learnt, leaf-reads.Asked, leaf-reads.Learnt, region-page-reads.Asked, region-page-reads.Learnt, read-reads.Asked, read-reads.Learnt, page-below t, page.Post)
 
 abbrev page-Inv-loop : page-lts.InvT-loop
-page-Inv-loop p f level j q b met₀ k left count u₀ at₀ e₀ met u at e = (e ≤ count) × Row p (2 * k + 1) at (count - e) × (length met ≡ length met₀) × (entryByEntry (λ x. pageOf L p (level - 1 - 1) (x .child) (x .box)) (readEnts k (count - e) (drop at p)) u met ≡ entryByEntry (λ x. pageOf L p (level - 1 - 1) (x .child) (x .box)) (entsIn (view L p j)) u₀ met₀)
+page-Inv-loop p f level j q b met₀ k left count u₀ at₀ e₀ met u at e = (e ≤ count) × Row p (2 * k + 1) at (count - e) × (length met ≡ length met₀) × (entryByEntry (λ x. pageWalk L p (level - 1 - 1) (x .child) (x .box)) (readEnts k (count - e) (drop at p)) u met ≡ entryByEntry (λ x. pageWalk L p (level - 1 - 1) (x .child) (x .box)) (entsIn (view L p j)) u₀ met₀)
 
 abbrev page-μ-loop : page-lts.MeasureT-loop
 page-μ-loop p f level j q b met₀ k left count u₀ at₀ e₀ met u at e = count - e
@@ -155,7 +155,7 @@ page-same-length-4 t c = c .before .loop .inv .2 ∙ c .before .before .before .
 page-returns-4 : (t : ℕ) → page-lts.Need-returns-4 (page-calls t) (page-at t) page.Post page-Inv-loop page-μ-loop
 page-returns-4 t c = let x = c .before .before .before .before .before .before .before .before .before .before .before .before .before .before .before .before .args in
     let l = c .before .loop in
-    let v = entries-end (λ y. pageOf L (x .p .now) (x .level - 1 - 1) (y .child) (y .box)) (x .p .now) (x .f .domains) (c .before .before .read .result) (l .e) (l .at) (l .u) (l .met) _ (l .inv .3) (c .loop-test .left) in
+    let v = entries-end (λ y. pageWalk L (x .p .now) (x .level - 1 - 1) (y .child) (y .box)) (x .p .now) (x .f .domains) (c .before .before .read .result) (l .e) (l .at) (l .u) (l .met) _ (l .inv .3) (c .loop-test .left) in
     (rw (c .before .before .before .before .before .before .before .before .put .ensures) at v) ∙ page-entries _ _ _ (c .before .before .before .before .before .before .before .before .before .before .before .before .before .before .before .before .pre .1 .0 .formed) _ _ (x .s) _ (sym (c .before .before .before .before .before .before .before .before .before .before .before .fresh .ensures) ∙ not-false _ (c .before .before .before .before .before .before .before .before .before .before .if1 .left)) (c .before .before .before .before .before .if2 .left) (sym (c .before .before .before .before .region-page .ensures) ∙ not-false _ (c .before .before .before .if3 .left))
 
 pub +page-spec : {M : Type 1} → statement M

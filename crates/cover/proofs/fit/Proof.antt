@@ -4,7 +4,7 @@ use mathlib.Core.Path.{refl, sym, _∙_}
 use native.Mathlib.Nat.{sub-zero}
 use borrow.Author.Tests.{not-true, not-false}
 use Rattle.words.specs.Words.{regionAt}
-use Rattle.cover.specs.Boxes.{regionsAt, fitting}
+use Rattle.cover.specs.Boxes.{regionsAt, fitted}
 use Rattle.cover.proofs.Loops.{region-first, row-next, Fits, fits-end, fits-out, fits-met, fits-next}
 use borrow.Author.Needs.{needs}
 use native.Mathlib.Omega.{arith}
@@ -12,7 +12,7 @@ use Rattle.cover.proofs.fit.Statement.{statement}
 use Rattle.cover.proofs.fit.Tie as tie
 
 abbrev Inv-loop : tie.InvT-loop
-Inv-loop p k at count q b a₀ e₀ a e = Fits p k a (count - e) (regionAt k q b) (fitting (regionAt k q b) (regionsAt k count p at))
+Inv-loop p k at count q b a₀ e₀ a e = Fits p k a (count - e) (regionAt k q b) (fitted (regionAt k q b) (regionsAt k count p at))
 
 abbrev μ-loop : tie.MeasureT-loop
 μ-loop p k at count q b a₀ e₀ a e = count - e

@@ -18,6 +18,7 @@ use Rattle.walk.proofs.list_page.Reads as list-page
 use Rattle.walk.proofs.list_page.Kinds as list-page-kinds
 use Rattle.walk.proofs.+list_page.Lts-list_page as list-page-lts
 use Rattle.walk.proofs.may_read.Reads as may-read-reads
+use Rattle.walk.proofs.stopped.Reads as stopped-reads
 use Rattle.walk.proofs.list_leaves.Reads as list-leaves-reads
 use Rattle.walk.proofs.meeting.Reads as meeting-reads
 use Rattle.walk.proofs.region_page.Reads as region-page-reads
@@ -36,7 +37,7 @@ list-page-below t =
     and 3 list-page-kinds.ps (falls 3 list-page-kinds.ps _<_ μ-list-page t) list-page.Pre
 
 abbrev list-page-calls : ℕ → list-page-lts.Claims
-list-page-calls t = (may-read-reads.Asked, may-read-reads.Learnt, region-page-reads.Asked, region-page-reads.Learnt, meeting-reads.Asked, meeting-reads.Learnt, list-leaves-reads.Asked, list-leaves-reads.Learnt, read-reads.Asked, read-reads.Learnt, list-page-below t, list-page.Post)
+list-page-calls t = (may-read-reads.Asked, may-read-reads.Learnt, stopped-reads.Asked, stopped-reads.Learnt, region-page-reads.Asked, region-page-reads.Learnt, meeting-reads.Asked, meeting-reads.Learnt, list-leaves-reads.Asked, list-leaves-reads.Learnt, read-reads.Asked, read-reads.Learnt, list-page-below t, list-page.Post)
 
 abbrev list-page-Inv-loop : list-page-lts.InvT-loop
 list-page-Inv-loop pool f window answer₀ level j t₀ child m i₀ answer t i = (length answer ≡ length answer₀) × Kept (f .pages) t
@@ -49,13 +50,16 @@ list-page-μ-loop pool f window answer₀ level j t₀ child m i₀ answer t i =
 list-page-may-read-requires : (t : ℕ) → list-page-lts.Need-may-read-requires (list-page-calls t) (list-page-at t) list-page.Post list-page-Inv-loop list-page-μ-loop
 list-page-may-read-requires t c κs = let p = c .before .before .before .pre .1 in (p .0 .formed .most, p .1 .1 .1 .1 .0)
 
+list-page-stopped-requires : (t : ℕ) → list-page-lts.Need-stopped-requires (list-page-calls t) (list-page-at t) list-page.Post list-page-Inv-loop list-page-μ-loop
+list-page-stopped-requires t c κs = search needs
+
 list-page-returns : (t : ℕ) → list-page-lts.Need-returns (list-page-calls t) (list-page-at t) list-page.Post list-page-Inv-loop list-page-μ-loop
-list-page-returns t c = let a = c .before .before .before .before .before .args in
-    let p = c .before .before .before .before .before .pre .1 in
+list-page-returns t c = let a = c .before .before .before .before .before .before .args in
+    let p = c .before .before .before .before .before .before .pre .1 in
     let k = p .1 .1 .1 .1 .0 in
     let v = windowOf (a .f .domains) (a .window .now) in
-    let e = halts (a .f .pages) (a .j) (a .s) (p .1 .1 .1 .1 .1) (sym (c .before .may-read .ensures) ∙ not-true _ (c .if1 .taken)) (regionWords (a .pool .now) (a .f .domains) (a .j)) in
-    (page-bad (a .pool .now) (a .f) (p .0) v (a .j) (a .s) k (a .answer .now) (a .level) (p .1 .1 .0) _ e refl, record { few = k .few; small = k .small })
+    let e = halts (a .f .pages) (a .j) (a .s) (p .1 .1 .1 .1 .1) (sym (c .before .before .may-read .ensures) ∙ not-true _ (c .before .if1 .taken)) (regionWords (a .pool .now) (a .f .domains) (a .j)) in
+    rw (c .stopped .ensures) (page-bad (a .pool .now) (a .f) (p .0) v (a .j) (a .s) k (a .answer .now) (a .level) (p .1 .1 .0) _ e refl, record { few = k .few; small = k .small })
 
 list-page-add-t14 : (t : ℕ) → list-page-lts.Need-add-t14 (list-page-calls t) (list-page-at t) list-page.Post list-page-Inv-loop list-page-μ-loop
 list-page-add-t14 t c = let p = c .before .before .before .before .before .before .pre .1 in omega (arith, p .0 .formed .most, p .1 .1 .1 .1 .0 .few)
@@ -63,14 +67,17 @@ list-page-add-t14 t c = let p = c .before .before .before .before .before .befor
 list-page-region-page-requires : (t : ℕ) → list-page-lts.Need-region-page-requires (list-page-calls t) (list-page-at t) list-page.Post list-page-Inv-loop list-page-μ-loop
 list-page-region-page-requires t c κs = c .before .before .before .before .before .before .pre .1 .0
 
+list-page-stopped-requires-2 : (t : ℕ) → list-page-lts.Need-stopped-requires-2 (list-page-calls t) (list-page-at t) list-page.Post list-page-Inv-loop list-page-μ-loop
+list-page-stopped-requires-2 t c κs = search needs
+
 list-page-returns-2 : (t : ℕ) → list-page-lts.Need-returns-2 (list-page-calls t) (list-page-at t) list-page.Post list-page-Inv-loop list-page-μ-loop
-list-page-returns-2 t c = let a = c .before .before .before .before .before .before .before .before .args in
-    let p = c .before .before .before .before .before .before .before .before .pre .1 in
+list-page-returns-2 t c = let a = c .before .before .before .before .before .before .before .before .before .args in
+    let p = c .before .before .before .before .before .before .before .before .before .pre .1 in
     let k = p .1 .1 .1 .1 .0 in
     let v = windowOf (a .f .domains) (a .window .now) in
-    let h = sym (c .before .before .before .before .may-read .ensures) ∙ not-false _ (c .before .before .before .if1 .left) in
-    let e = stops-at (a .f .pages) (a .j) (a .s) (p .1 .1 .1 .1 .1) h (regionWords (a .pool .now) (a .f .domains) (a .j)) (sym (c .before .region-page .ensures) ∙ not-true _ (c .if2 .taken)) in
-    (page-bad (a .pool .now) (a .f) (p .0) v (a .j) (a .s) k (a .answer .now) (a .level) (p .1 .1 .0) _ e refl, kept-on (a .f .pages) (a .j) (a .s) (p .1 .1 .1 .1 .1) h k _)
+    let h = sym (c .before .before .before .before .before .may-read .ensures) ∙ not-false _ (c .before .before .before .before .if1 .left) in
+    let e = stops-at (a .f .pages) (a .j) (a .s) (p .1 .1 .1 .1 .1) h (regionWords (a .pool .now) (a .f .domains) (a .j)) (sym (c .before .before .region-page .ensures) ∙ not-true _ (c .before .if2 .taken)) in
+    rw (c .stopped2 .ensures) (page-bad (a .pool .now) (a .f) (p .0) v (a .j) (a .s) k (a .answer .now) (a .level) (p .1 .1 .0) _ e refl, kept-on (a .f .pages) (a .j) (a .s) (p .1 .1 .1 .1 .1) h k _)
 
 list-page-slice-aggregate-meeting : (t : ℕ) → list-page-lts.Need-slice-aggregate-meeting (list-page-calls t) (list-page-at t) list-page.Post list-page-Inv-loop list-page-μ-loop
 list-page-slice-aggregate-meeting t c = search needs
@@ -169,9 +176,11 @@ pub +list-page-spec : {M : Type 1} → statement M
     list-page-Inv-loop
     list-page-μ-loop
     (list-page-may-read-requires t)
+    (list-page-stopped-requires t)
     (list-page-returns t)
     (list-page-add-t14 t)
     (list-page-region-page-requires t)
+    (list-page-stopped-requires-2 t)
     (list-page-returns-2 t)
     (list-page-slice-aggregate-meeting t)
     (list-page-meeting-requires t)
