@@ -10,7 +10,7 @@ use Rattle.kdb.specs.Pages.{entsIn, readEnts}
 use Rattle.audit.specs.Walk.{entryByEntry, pageWalk}
 use Rattle.pages.proofs.OnePage.{entries-of}
 use Rattle.words.specs.Words.{RegionIn}
-use Rattle.cover.specs.Boxes.{Row}
+use Rattle.cover.specs.Boxes.{Run}
 use Rattle.cover.proofs.Loops.{row-next, row-first, region-first}
 use Rattle.audit.proofs.Turns.{Within, fresh-within, entries-end, entries-next, page-bad, page-leaf, page-spoilt, page-entries}
 use borrow.Author.Needs.{needs}
@@ -42,7 +42,7 @@ abbrev page-calls : ℕ → page-lts.Claims
 page-calls t = (fresh-reads.Asked, fresh-reads.Learnt, put-reads.Asked, put-reads.Learnt, leaf-reads.Asked, leaf-reads.Learnt, region-page-reads.Asked, region-page-reads.Learnt, read-reads.Asked, read-reads.Learnt, page-below t, page.Post)
 
 abbrev page-Inv-loop : page-lts.InvT-loop
-page-Inv-loop p f level j q b met₀ k left count u₀ at₀ e₀ met u at e = (e ≤ count) × Row p (2 * k + 1) at (count - e) × (length met ≡ length met₀) × (entryByEntry (λ x. pageWalk L p (level - 1 - 1) (x .child) (x .box)) (readEnts k (count - e) (drop at p)) u met ≡ entryByEntry (λ x. pageWalk L p (level - 1 - 1) (x .child) (x .box)) (entsIn (view L p j)) u₀ met₀)
+page-Inv-loop p f level j q b met₀ k left count u₀ at₀ e₀ met u at e = (e ≤ count) × Run p (2 * k + 1) at (count - e) × (length met ≡ length met₀) × (entryByEntry (λ x. pageWalk L p (level - 1 - 1) (x .child) (x .box)) (readEnts k (count - e) (drop at p)) u met ≡ entryByEntry (λ x. pageWalk L p (level - 1 - 1) (x .child) (x .box)) (entsIn (view L p j)) u₀ met₀)
 
 abbrev page-μ-loop : page-lts.MeasureT-loop
 page-μ-loop p f level j q b met₀ k left count u₀ at₀ e₀ met u at e = count - e
