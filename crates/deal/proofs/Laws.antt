@@ -12,10 +12,10 @@ use lib.Seq.{sets, drop-cons, getD-take, getD-drop, take-all, set-getD, getD-set
 use borrow.Author.Tests.{le-leb, lt-leb, eq-eqb, ne-eqb}
 use Rattle.kdb.specs.Calls.{L}
 use Rattle.kdb.specs.Pages.{page}
-use Rattle.words.specs.Words.{lowestFree}
+use Rattle.words.specs.Words.{lowest, word}
 use Rattle.kdb.proofs.Stores.{take-set, take-sets}
-use Rattle.steps.specs.Machine.{Claimed, word, freshIn, appendIn}
-use Rattle.steps.specs.Claim.{lowest, claimIn}
+use Rattle.steps.specs.Machine.{Claimed, freshIn, appendIn}
+use Rattle.steps.specs.Claim.{claimIn}
 use Rattle.steps.specs.Split.{pointsIn, partPoints}
 use Rattle.deal.specs.Part.{claimed, openIn, halfIn, bothIn}
 
@@ -42,13 +42,13 @@ unfolding freshIn
 fresh-is w c kind e = let q : 32 * c + 32 - 32 * c ≡ 32 = omega arith in rw q
 
 module _ (n kind e : ℕ) (w : List ℕ) where
-  pub claim-none : lowestFree w n ≡ n → claimed 0 w ≡ claimIn L n kind e w
-  unfolding claimIn lowest
-  claim-none h = rw (eq-eqb (lowestFree w n) n h)
+  pub claim-none : lowest L n w ≡ n → claimed 0 w ≡ claimIn L n kind e w
+  unfolding claimIn
+  claim-none h = rw (eq-eqb (lowest L n w) n h)
 
-  pub claim-some : (lowestFree w n ≡ n → ⊥) → claimed (lowestFree w n) (freshIn L w (lowestFree w n) kind e) ≡ claimIn L n kind e w
-  unfolding claimIn lowest
-  claim-some h = rw (ne-eqb (lowestFree w n) n h)
+  pub claim-some : (lowest L n w ≡ n → ⊥) → claimed (lowest L n w) (freshIn L w (lowest L n w) kind e) ≡ claimIn L n kind e w
+  unfolding claimIn
+  claim-some h = rw (ne-eqb (lowest L n w) n h)
 
 module _ (n kind e j : ℕ) (w v : List ℕ) (r : ℕ) (h : claimed r v ≡ claimIn L n kind e w) where
   pub open-none : r ≡ 0 → claimed 0 v ≡ openIn n kind e j w

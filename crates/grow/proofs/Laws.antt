@@ -24,10 +24,11 @@ use Rattle.words.specs.Loops.{keysBy}
 use Rattle.cut.specs.Keys.{keyIn, keysIn}
 use Rattle.cut.specs.Chosen.{cutAs}
 use Rattle.cut.specs.declared.Chosen.{Chosen}
+use Rattle.words.specs.Words.{regionAt, word}
 use Rattle.deal.specs.Part.{claimed, halfIn}
-use Rattle.steps.specs.Machine.{Claimed, word, appendIn, overfull}
+use Rattle.steps.specs.Machine.{Claimed, appendIn, overfull}
 use Rattle.steps.specs.Split.{partPoints, partRegions, splitIn}
-use Rattle.steps.specs.Grow.{short, fine, broke, Grown, brokeAt, boxAt, seekIn, settleIn, breakPoints, breakRegions, widenIn, upIn, growIn}
+use Rattle.steps.specs.Grow.{short, fine, broke, Grown, brokeAt, seekIn, settleIn, breakPoints, breakRegions, widenIn, upIn, growIn}
 use Rattle.grow.specs.Grown.{grownAs, settlePoints, settleRegions}
 use Rattle.grow.specs.declared.Grown.{Grown as Answer}
 
@@ -37,22 +38,22 @@ sides-short [] us = omega arith
 sides-short (l ∷ ls) [] = omega arith
 sides-short (l ∷ ls) (u ∷ us) = omega (arith, sides-short ls us)
 
-pub holds-none : (k a : ℕ) (w : List ℕ) (p : Key) → 1 ≤ k → length p ≡ k → length w < a + 2 * k → false ≡ within (boxAt k w a) p
+pub holds-none : (k a : ℕ) (w : List ℕ) (p : Key) → 1 ≤ k → length p ≡ k → length w < a + 2 * k → false ≡ within (regionAt k w a) p
 holds-none k a w p l h g =
-    sym (bool (within (boxAt k w a) p)
-    (λ t. absurd (omega (arith, within-length (boxAt k w a) p t, sides-short (take k (drop a w)) (take k (drop (a + k) w)), length-take k (drop (a + k) w), length-drop (a + k) w)))
-    (is-false (within (boxAt k w a) p)))
+    sym (bool (within (regionAt k w a) p)
+    (λ t. absurd (omega (arith, within-length (regionAt k w a) p t, sides-short (take k (drop a w)) (take k (drop (a + k) w)), length-take k (drop (a + k) w), length-drop (a + k) w)))
+    (is-false (within (regionAt k w a) p)))
 
 module _ (k : ℕ) (p : Key) (m i : ℕ) (w : List ℕ) (a z : ℕ) where
   pub seek-end : seekIn k p (m - i) w a ≡ z → m ≤ i → 0 ≡ z
   unfolding seekIn
   seek-end e h = let q : m - i ≡ 0 = omega arith in rw q at e
 
-  pub seek-here : seekIn k p (m - i) w a ≡ z → i < m → within (boxAt k w a) p ≡ true → a ≡ z
+  pub seek-here : seekIn k p (m - i) w a ≡ z → i < m → within (regionAt k w a) p ≡ true → a ≡ z
   unfolding seekIn
   seek-here e h t = let q : m - i ≡ suc (m - (i + 1)) = omega arith in rw (q, t) at e
 
-  pub seek-next : seekIn k p (m - i) w a ≡ z → i < m → within (boxAt k w a) p ≡ false → seekIn k p (m - (i + 1)) w (a + (2 * k + 1)) ≡ z
+  pub seek-next : seekIn k p (m - i) w a ≡ z → i < m → within (regionAt k w a) p ≡ false → seekIn k p (m - (i + 1)) w (a + (2 * k + 1)) ≡ z
   unfolding seekIn
   seek-next e h t = let q : m - i ≡ suc (m - (i + 1)) = omega arith in rw (q, t) at e
 

@@ -23,10 +23,9 @@ ghost use Rattle.kdb.specs.Calls.{L};
 ghost use Rattle.kdb.specs.Cut.{cutPoints, cutRegions};
 ghost use Rattle.kdb.specs.Pages.{page, regionsPer, pointsPer, readRecs, readEnts};
 ghost use Rattle.cut.specs.Keys.{Entries};
-ghost use Rattle.words.specs.Words.{Formed};
+ghost use Rattle.words.specs.Words.{Formed, regionAt, word};
 ghost use Rattle.deal.specs.Part.{Along};
-ghost use Rattle.steps.specs.Machine.{word};
-ghost use Rattle.steps.specs.Grow.{boxAt, seekIn, breakPoints, breakRegions, widenIn, growIn};
+ghost use Rattle.steps.specs.Grow.{seekIn, breakPoints, breakRegions, widenIn, growIn};
 ghost use Rattle.grow.specs.Grown.{grownAs, Real, settlePoints, settleRegions};
 
 // How a page took the point, if it did: with room, where page is 0, or broken along a key of a domain, page the right one.
@@ -56,7 +55,7 @@ const FINE: Grown = Grown {
 // The region at word a holds the point; one that runs past the end holds none.
 fn holds(pool: &[u32], k: usize, a: usize, point: &[u32]) -> bool
     requires { ⌜ (1 ≤ k) × ((k ≤ 4) × ((a < 2 ^ 40) × (length (now point) ≡ k))) ⌝ }
-    ensures { λ r. ⌜ r ≡ within (boxAt k (now (pool .entry)) a) (now (point .entry)) ⌝ }
+    ensures { λ r. ⌜ r ≡ within (regionAt k (now (pool .entry)) a) (now (point .entry)) ⌝ }
 {
     if a + 2 * k <= pool.len() {
         point_in(pool, k, a, point)

@@ -13,13 +13,13 @@ use Rattle.kdb.specs.Calls.{L}
 use Rattle.kdb.specs.Pages.{regionsPer, pointsPer}
 use Rattle.kdb.specs.Pool.{rootAt, levelsAt, countAt}
 use Rattle.kdb.specs.declared.Form.{Form}
-use Rattle.words.specs.Words.{Fit}
+use Rattle.words.specs.Words.{Fit, word}
 use Rattle.words.proofs.Laws.{pages}
 use Rattle.deal.specs.Part.{claimed, halfIn}
 use Rattle.split.specs.Part.{passed}
 use Rattle.grow.specs.Grown.{grownAs}
 use Rattle.grow.specs.declared.Grown.{Grown as Answer}
-use Rattle.steps.specs.Machine.{word, headIn, appendIn}
+use Rattle.steps.specs.Machine.{headIn, appendIn}
 use Rattle.steps.specs.Claim.{claimIn}
 use Rattle.steps.specs.Grow.{growIn}
 use Rattle.steps.specs.Place.{space, rootIn, toppedIn, firstIn, restored, placeIn}

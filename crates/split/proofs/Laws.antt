@@ -14,7 +14,8 @@ use Rattle.kdb.specs.Pages.{page}
 use Rattle.kdb.proofs.Tests.{bool, is-true, is-false, and-t}
 use Rattle.kdb.proofs.Stores.{sets-all}
 use Rattle.kdb.proofs.Pages.{page-full}
-use Rattle.steps.specs.Machine.{Passed, Claimed, word, freshIn, appendIn}
+use Rattle.words.specs.Words.{word}
+use Rattle.steps.specs.Machine.{Passed, Claimed, freshIn, appendIn}
 use Rattle.steps.specs.Claim.{claimIn}
 use Rattle.steps.specs.Split.{pointsIn, entriesIn, partPoints, partRegions, splitIn, reported}
 use Rattle.deal.specs.Part.{claimed, openIn, bothIn}

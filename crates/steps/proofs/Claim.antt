@@ -12,8 +12,9 @@ use Rattle.kdb.specs.Pages.{layout, page}
 use Rattle.kdb.proofs.Tests.{bool, self, no-bit}
 use Rattle.kdb.proofs.Counts.{only-same, only-in, only-once, only-claimed}
 use Rattle.kdb.proofs.Stores.{length-pad}
-use Rattle.steps.specs.Machine.{word, freshIn}
-use Rattle.steps.specs.Claim.{lowest, claimIn}
+use Rattle.words.specs.Words.{lowest, word}
+use Rattle.steps.specs.Machine.{freshIn}
+use Rattle.steps.specs.Claim.{claimIn}
 use Rattle.kdb.proofs.Pages.{word-at}
 use Rattle.steps.proofs.Machine.{Wrote, fresh}
 
@@ -43,7 +44,6 @@ module _ (L N : ℕ) where
     pub zeros : (c : ℕ) → 1 ≤ many c free → page L w c ≡ pad L []
 
   lowest-is : (w free : List ℕ) → Free w free → lowest L N w ≡ getD free 0 N
-  unfolding lowest
   lowest-is w free f = ap (λ l. getD l 0 N) (f .is)
 
   free-range : (w free : List ℕ) → Free w free → (c : ℕ) → 1 ≤ many c free → (1 ≤ c) × (c < N)

@@ -12,7 +12,7 @@ use Rattle.kdb.specs.Pages.{Ent, wordsR, wordsE}
 use Rattle.kdb.proofs.Stores.{set-append-add}
 use Rattle.kdb.proofs.Tiling.{part-length}
 use Rattle.kdb.proofs.Pages.{lows, highs, both-length, entOf, ent-back}
-use Rattle.steps.specs.Grow.{boxAt}
+use Rattle.words.specs.Words.{regionAt}
 
 abbrev pub ent : Box → ℕ → Ent
 ent b c = record { box = b; child = c }
@@ -97,5 +97,5 @@ module _ (src : List ℕ) (a wd : ℕ) (u zs : List ℕ) (h : drop a src ≡ u +
   word-in i l = sym (getD-drop a src i 0) ∙ (ap (λ v. getD v i 0) h ∙ List·getD-append u zs 0 i (omega (arith, n)))
 
 -- the region at word a
-pub box-at : (k : ℕ) (b : Box) (c : ℕ) → length b ≡ k → (src : List ℕ) (a : ℕ) (zs : List ℕ) → drop a src ≡ wordsE (ent b c) ++ zs → boxAt k src a ≡ b
+pub box-at : (k : ℕ) (b : Box) (c : ℕ) → length b ≡ k → (src : List ℕ) (a : ℕ) (zs : List ℕ) → drop a src ≡ wordsE (ent b c) ++ zs → regionAt k src a ≡ b
 box-at k b c n src a zs h = ap (λ v. sides (take k (drop a src)) (take k v)) (sym (drop-drop k a src)) ∙ (ap (λ v. entOf k v .box) h ∙ ap (λ e. e .box) (ent-back k (ent b c) zs n))

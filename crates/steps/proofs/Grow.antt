@@ -25,9 +25,10 @@ use Rattle.kdb.proofs.Tiling.{part-length}
 use Rattle.kdb.proofs.Pages.{rec-length, ent-length, recs-back, ents-back}
 use Rattle.kdb.proofs.Views.{boxes-ents}
 use Rattle.kdb.proofs.Fair.{FairPoints, FairRegions, FairWider, Fair, FairF}
-use Rattle.steps.specs.Machine.{Claimed, word, appendIn, overfull}
+use Rattle.words.specs.Words.{regionAt, word}
+use Rattle.steps.specs.Machine.{Claimed, appendIn, overfull}
 use Rattle.steps.specs.Split.{partPoints, partRegions, splitIn}
-use Rattle.steps.specs.Grow.{short, fine, broke, Grown, brokeAt, boxAt, seekIn, settleIn, breakPoints, breakRegions, widenIn, upIn, growIn}
+use Rattle.steps.specs.Grow.{short, fine, broke, Grown, brokeAt, seekIn, settleIn, breakPoints, breakRegions, widenIn, upIn, growIn}
 use Rattle.steps.proofs.Machine.{Wrote, wrote, append, over, layout-sets}
 use Rattle.steps.proofs.Entry.{ent, entry-child, entry-left, entry-right, words-at, words-after, word-in, box-at}
 use Rattle.steps.proofs.Held.{Holds, HoldsF, holds-join, join-holds, frameF, Keys, Fits, FitsF, fits-join, join-fits, records-length, entries-length, size-ents, size-join, ents-join, words-join, many-join}
@@ -86,7 +87,7 @@ behinds-wider fnil g free = refl
 behinds-wider (fcons b t f) g free = ap (behind b t) (behinds-wider f g free)
 
 -- the turns of the search for the entry that holds the point
-module _ (k : ℕ) (p : Key) (n : ℕ) (src : List ℕ) (a : ℕ) (b : Box) (h : boxAt k src a ≡ b) where
+module _ (k : ℕ) (p : Key) (n : ℕ) (src : List ℕ) (a : ℕ) (b : Box) (h : regionAt k src a ≡ b) where
   seek-here : within b p ≡ true → seekIn k p (suc n) src a ≡ a
   unfolding seekIn
   seek-here t = rw (h, t)

@@ -15,7 +15,8 @@ use Rattle.kdb.specs.Pages.{layout, page}
 use Rattle.kdb.proofs.Tests.{ne-of-bit}
 use Rattle.kdb.proofs.Stores.{sets-cons, sets-all, length-pad, pad-sets, pad-nil, pad-tail, pad-pad}
 use Rattle.kdb.proofs.Pages.{page-sets, page-sets-other, word-at}
-use Rattle.steps.specs.Machine.{word, freshIn, appendIn, overfull}
+use Rattle.words.specs.Words.{word}
+use Rattle.steps.specs.Machine.{freshIn, appendIn, overfull}
 
 -- what a store to page j leaves
 pub record Wrote (L : ℕ) (w : List ℕ) (j : ℕ) (v : List ℕ) (w′ : List ℕ) : Type 0 where

@@ -15,7 +15,8 @@ use Rattle.kdb.specs.Cut.{isLeft, isRight}
 use Rattle.kdb.specs.Pages.{layout, wordsR, page}
 use Rattle.kdb.proofs.Tests.{bool, self}
 use Rattle.kdb.proofs.Pages.{rec-length}
-use Rattle.steps.specs.Machine.{word, freshIn, appendIn}
+use Rattle.words.specs.Words.{word}
+use Rattle.steps.specs.Machine.{freshIn, appendIn}
 use Rattle.steps.specs.Split.{pointsIn}
 use Rattle.steps.proofs.Machine.{Wrote, append, fresh, length-layout}
 use Rattle.steps.proofs.Entry.{rec-key, words-at, words-after, word-in}

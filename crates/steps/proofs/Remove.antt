@@ -31,7 +31,8 @@ use Rattle.kdb.proofs.Views.{Seen, SeenF, whole-under}
 use Rattle.kdb.proofs.Print.{some-levels, stands-seen}
 use Rattle.kdb.proofs.Header.{head-says}
 use Rattle.kdb.proofs.Stands.{Stands}
-use Rattle.steps.specs.Machine.{word, headIn}
+use Rattle.words.specs.Words.{word}
+use Rattle.steps.specs.Machine.{headIn}
 use Rattle.steps.specs.Remove.{downIn, closeIn, removeIn}
 use Rattle.steps.proofs.Machine.{Wrote, wrote, length-layout, layout-sets}
 use Rattle.steps.proofs.Entry.{ent}

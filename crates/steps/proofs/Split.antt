@@ -22,7 +22,8 @@ use Rattle.kdb.proofs.Counts.{many-append, only-most}
 use Rattle.kdb.proofs.Stores.{pad-tail}
 use Rattle.kdb.proofs.Tiling.{lies-case, keep, parts, part-length}
 use Rattle.kdb.proofs.Pages.{ent-length, word-at}
-use Rattle.steps.specs.Machine.{Passed, Claimed, word, freshIn, appendIn}
+use Rattle.words.specs.Words.{word}
+use Rattle.steps.specs.Machine.{Passed, Claimed, freshIn, appendIn}
 use Rattle.steps.specs.Claim.{claimIn}
 use Rattle.steps.specs.Split.{pointsIn, entriesIn, partPoints, reported, partRegions, splitIn}
 use Rattle.steps.proofs.Entry.{ent, entry-lower, entry-upper, entry-child, entry-left, entry-right, words-at, words-after, word-in}

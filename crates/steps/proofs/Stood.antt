@@ -26,7 +26,8 @@ use Rattle.kdb.proofs.Pages.{word-at, pool-ext}
 use Rattle.kdb.proofs.Views.{Seen, SeenF, seen-own, at, among, page-in, page-out, or-first, Under, under-key, under-length, tiles-under}
 use Rattle.kdb.proofs.Print.{print-length, print-header, print-page}
 use Rattle.kdb.proofs.Header.{head-says, print-over}
-use Rattle.steps.specs.Machine.{word, headIn}
+use Rattle.words.specs.Words.{word}
+use Rattle.steps.specs.Machine.{headIn}
 use Rattle.steps.proofs.Machine.{Wrote, wrote}
 use Rattle.steps.proofs.Held.{Holds, HoldsF, Fits, FitsF, size-boxes}
 use Rattle.steps.proofs.Claim.{Free}

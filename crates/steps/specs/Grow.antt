@@ -5,11 +5,12 @@ use mathlib.Core.List.{List, [], _∷_, _++_, map}
 use Prim.Native.Nat.{ℕ, zero, suc, _+_, _*_}
 use lib.Dec.{ltb, eqb}
 use lib.ListN.{take, drop, getD, set}
-use Rattle.kdb.specs.Box.{Box, Key, sides, within}
+use Rattle.kdb.specs.Box.{Key, within}
 use Rattle.kdb.specs.Pages.{readRecs, readEnts}
 use Rattle.kdb.specs.Cut.{Cut, nowhere, cut, cutPoints, cutRegions}
 use Rattle.kdb.specs.Steps.{afterChosen}
-use Rattle.steps.specs.Machine.{Claimed, word, appendIn, overfull}
+use Rattle.words.specs.Words.{regionAt, word}
+use Rattle.steps.specs.Machine.{Claimed, appendIn, overfull}
 use Rattle.steps.specs.Split.{partPoints, partRegions, splitIn}
 
 -- how a page took the point: not, for want of a page; with room; in two pages, cut along a key of a domain, the right one given
@@ -24,14 +25,10 @@ pub record Grown : Type 0 where
 abbrev pub brokeAt : ℕ → ℕ → Claimed → Grown
 brokeAt d x o = cond (eqb (o .page) 0) (record { how = short; words = o .words }) (record { how = broke d x (o .page); words = o .words })
 
--- the region whose lower ends, then upper ends, stand from word a on
-abbrev pub boxAt : ℕ → List ℕ → ℕ → Box
-boxAt k src a = sides (take k (drop a src)) (take k (drop (a + k) src))
-
 -- the place of the first of n entries from word a on whose region holds the point, or 0
 unfoldable pub seekIn : ℕ → Key → ℕ → List ℕ → ℕ → ℕ
 seekIn k p zero src a = 0
-seekIn k p (suc n) src a = let later = seekIn k p n src (a + (2 * k + 1)) in cond (within (boxAt k src a) p) a later
+seekIn k p (suc n) src a = let later = seekIn k p n src (a + (2 * k + 1)) in cond (within (regionAt k src a) p) a later
 
 -- page j takes the entry u of wd words behind its m entries: with room, or, full, as the copy with one entry more is broken
 unfoldable pub settleIn : ℕ → ℕ → ℕ → (List ℕ → Grown) → ℕ → List ℕ → ℕ → List ℕ → Grown

@@ -5,7 +5,8 @@ use Prim.Native.Nat.{ℕ, zero, suc, _+_, _-_, _*_}
 use lib.ListN.{getD, set, replicate}
 use lib.Seq.{sets}
 use Rattle.kdb.specs.Pool.{domains, rootAt, levelsAt, countAt}
-use Rattle.steps.specs.Machine.{word, headIn}
+use Rattle.words.specs.Words.{word}
+use Rattle.steps.specs.Machine.{headIn}
 
 -- n words, from word a + wd of the pool on, move down by wd, the first one first
 unfoldable pub downIn : ℕ → ℕ → List ℕ → ℕ → List ℕ

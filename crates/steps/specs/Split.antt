@@ -7,7 +7,8 @@ use lib.Dec.{leb, ltb, eqb}
 use lib.ListN.{take, drop, getD, set}
 use Rattle.kdb.specs.Pages.{page}
 use Rattle.kdb.specs.Steps.{afterForced}
-use Rattle.steps.specs.Machine.{Passed, Claimed, word, freshIn, appendIn}
+use Rattle.words.specs.Words.{word}
+use Rattle.steps.specs.Machine.{Passed, Claimed, freshIn, appendIn}
 use Rattle.steps.specs.Claim.{claimIn}
 
 -- L words a page, k domains, along x in domain d

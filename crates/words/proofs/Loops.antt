@@ -13,6 +13,7 @@ use Rattle.kdb.specs.Lists.{every}
 use Rattle.kdb.proofs.Tests.{bool, and-true, and-assoc}
 use Rattle.kdb.proofs.Stores.{sets-out}
 use Rattle.words.specs.Loops.{allBy, keysBy}
+use Rattle.kdb.specs.Calls.{L}
 use Rattle.words.specs.Words.{wordAt, zeroAt, freeFrom}
 
 module _ (c e : ℕ) (f : ℕ → ℕ → Bool) (d a : ℕ) (ok w : Bool) where
@@ -76,11 +77,11 @@ zero-clamped w to (suc n) i ok h =
     zero-clamped w to n (i + 1) (ok && zeroAt w n i) (omega arith) ∙ sym (ap (λ (m : ℕ). allBy m (zeroAt w) 1 i ok) q)
 
 module _ (w : List ℕ) (n j : ℕ) where
-  pub free-end : n ≤ j → getD (freeFrom w (n - j) j) 0 n ≡ n
+  pub free-end : n ≤ j → getD (freeFrom L w (n - j) j) 0 n ≡ n
   free-end h = let q : n - j ≡ 0 = omega arith in rw q
 
-  pub free-here : j < n → wordAt w j 0 ≡ 0 → getD (freeFrom w (n - j) j) 0 n ≡ j
+  pub free-here : j < n → wordAt w j 0 ≡ 0 → getD (freeFrom L w (n - j) j) 0 n ≡ j
   free-here h z = let q : n - j ≡ suc (n - (j + 1)) = omega arith in rw (q, z)
 
-  pub free-next : j < n → (wordAt w j 0 ≡ 0 → ⊥) → getD (freeFrom w (n - j) j) 0 n ≡ getD (freeFrom w (n - (j + 1)) (j + 1)) 0 n
+  pub free-next : j < n → (wordAt w j 0 ≡ 0 → ⊥) → getD (freeFrom L w (n - j) j) 0 n ≡ getD (freeFrom L w (n - (j + 1)) (j + 1)) 0 n
   free-next h z = let q : n - j ≡ suc (n - (j + 1)) = omega arith in rw (q, ne-eqb _ _ z, add-one j)

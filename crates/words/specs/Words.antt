@@ -14,9 +14,12 @@ use Rattle.kdb.specs.Calls.{L}
 use Rattle.kdb.specs.declared.Form.{Form}
 use Rattle.words.specs.Loops.{allBy}
 
--- word i of page j
+-- word i of page j, where a page has M words; and where it has L
+abbrev pub word : ℕ → List ℕ → ℕ → ℕ → ℕ
+word M w j i = getD w (M * j + i) 0
+
 abbrev pub wordAt : List ℕ → ℕ → ℕ → ℕ
-wordAt w j i = getD w (L * j + i) 0
+wordAt w j i = word L w j i
 
 -- the number of pages, 0 for a pool of another length
 abbrev pub pageCount : List ℕ → ℕ
@@ -64,13 +67,12 @@ pointKey w k j e d = getD w (keyPlace k j e d) 0
 abbrev pub pointLocation : List ℕ → ℕ → ℕ → ℕ → ℕ
 pointLocation w k j e = getD w (locationPlace k j e) 0
 
--- of m pages from j on, those whose kind is 0
-abbrev pub freeFrom : List ℕ → ℕ → ℕ → List ℕ
-freeFrom w m j = only (λ i. eqb (wordAt w i 0) 0) (upFrom m j)
+-- of m pages from j on, those whose kind is 0; the lowest of n pages, or n
+abbrev pub freeFrom : ℕ → List ℕ → ℕ → ℕ → List ℕ
+freeFrom M w m j = only (λ i. eqb (word M w i 0) 0) (upFrom m j)
 
--- the lowest free page of n, or n
-abbrev pub lowestFree : List ℕ → ℕ → ℕ
-lowestFree w n = getD (freeFrom w (n - 1) 1) 0 n
+abbrev pub lowest : ℕ → ℕ → List ℕ → ℕ
+lowest M n w = getD (freeFrom M w (n - 1) 1) 0 n
 
 -- the region at word a, and the keys of the record in slot e of page j
 abbrev pub regionAt : ℕ → List ℕ → ℕ → Box

@@ -6,7 +6,7 @@ ghost use lib.ListN.{length, getD, set, replicate};
 ghost use lib.Seq.{sets};
 ghost use Rattle.kdb.specs.Pool.{pagesIn, goodHeader, GoodLength};
 ghost use Rattle.kdb.specs.Calls.{L, finite};
-ghost use Rattle.words.specs.Words.{wordAt, pageCount, formOf, capacityOf, keyPlace, locationPlace, pointKey, pointLocation, lowestFree, allZero, RegionIn, RecordIn};
+ghost use Rattle.words.specs.Words.{wordAt, pageCount, formOf, capacityOf, keyPlace, locationPlace, pointKey, pointLocation, lowest, allZero, RegionIn, RecordIn};
 
 // Regions and points a page, by K from 1 to 4.
 const CAPACITIES: [[u32; 4]; 2] = [[9, 5, 4, 3], [14, 9, 7, 5]];
@@ -249,7 +249,7 @@ pub fn clear(x: &mut [u32], from: usize, to: usize)
 // The page to claim: the lowest from 1 to n - 1 whose kind is 0, or n.
 pub fn lowest_free(pool: &[u32], n: usize) -> usize
     requires { ⌜ (1 ≤ n) × (n < 2 ^ 32) ⌝ }
-    ensures { λ r. ⌜ (r ≡ lowestFree (now (pool .entry)) n) × (r ≤ n) ⌝ }
+    ensures { λ r. ⌜ (r ≡ lowest L n (now (pool .entry))) × (r ≤ n) ⌝ }
 {
     let mut j: usize = 1;
     while j < n {

@@ -2,8 +2,8 @@
 use mathlib.Core.Path.{ap, _∙_}
 use Prim.Native.Nat.{_+_, _*_}
 use lib.Seq.{sets, take-all}
-use Rattle.steps.specs.Machine.{word}
 use Rattle.kdb.specs.Pages.{page}
+use Rattle.words.specs.Words.{word}
 use Rattle.grow.proofs.Laws.{far}
 use borrow.Author.Needs.{needs}
 use native.Mathlib.Omega.{arith}

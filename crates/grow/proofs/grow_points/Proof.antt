@@ -3,7 +3,7 @@ use Prim.Native.Nat.{_+_}
 use lib.ListN.{take, length-take}
 use mathlib.Core.Path.{sym, ap, _∙_}
 use lib.Seq.{length-take-le}
-use Rattle.steps.specs.Machine.{word}
+use Rattle.words.specs.Words.{word}
 use Rattle.grow.specs.Grown.{settlePoints}
 use Rattle.grow.proofs.Laws.{record-words, grow-points}
 use borrow.Author.Needs.{needs}

@@ -2,7 +2,7 @@
 use Prim.Native.Nat.{_≤_, _<_, _-_, _+_, _*_, _^_}
 use native.Mathlib.Nat.{sub-zero}
 use mathlib.Core.Path.{_≡_, sym, _∙_}
-use Rattle.steps.specs.Machine.{word}
+use Rattle.words.specs.Words.{word}
 use Rattle.steps.specs.Grow.{seekIn}
 use Rattle.grow.proofs.Laws.{seek-end, seek-here, seek-next}
 use borrow.Author.Needs.{needs}

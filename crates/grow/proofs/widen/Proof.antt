@@ -3,7 +3,7 @@
 use Prim.Native.Nat.{_+_}
 use lib.Seq.{length-take-le}
 use lib.ListN.{take, set, replicate}
-use Rattle.steps.specs.Machine.{word}
+use Rattle.words.specs.Words.{word}
 use Rattle.grow.specs.Grown.{settleRegions}
 use mathlib.Core.Path.{sym, ap, ap₂, _∙_}
 use Rattle.deal.proofs.Laws.{half-take}

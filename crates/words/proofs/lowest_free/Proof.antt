@@ -1,6 +1,7 @@
 -- `words::lowest_free` meets its contract: what is left to search has the answer of the whole.
 use Rattle.words.proofs.Loops.{free-end, free-here, free-next}
-use Rattle.words.specs.Words.{freeFrom, lowestFree}
+use Rattle.words.specs.Words.{freeFrom, lowest}
+use Rattle.kdb.specs.Calls.{L}
 use mathlib.Core.Path.{_≡_, refl, sym, _∙_}
 use lib.ListN.{getD}
 use Prim.Native.Nat.{_≤_, _-_}
@@ -10,7 +11,7 @@ use Rattle.words.proofs.lowest_free.Statement.{statement}
 use Rattle.words.proofs.lowest_free.Tie as tie
 
 abbrev Inv-loop : tie.InvT-loop
-Inv-loop pool n j₀ j = (1 ≤ j) × (j ≤ n) × (getD (freeFrom pool (n - j) j) 0 n ≡ lowestFree pool n)
+Inv-loop pool n j₀ j = (1 ≤ j) × (j ≤ n) × (getD (freeFrom L pool (n - j) j) 0 n ≡ lowest L n pool)
 
 abbrev μ-loop : tie.MeasureT-loop
 μ-loop pool n j₀ j = n - j
