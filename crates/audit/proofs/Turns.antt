@@ -17,7 +17,7 @@ use Rattle.kdb.specs.declared.Form.{Form}
 use Rattle.kdb.proofs.Tests.{and-t, and-true, and-assoc}
 use Rattle.kdb.proofs.Words.{entAt, ent-turn}
 use Rattle.words.specs.Loops.{allBy}
-use Rattle.words.specs.Words.{regionAt, Formed}
+use Rattle.words.specs.Words.{regionAt, Formed, wholeWords}
 use Rattle.words.proofs.Laws.{pages}
 use Rattle.audit.specs.declared.Seen.{Seen}
 use Rattle.pages.specs.Tests.{PageOf}
@@ -106,8 +106,8 @@ module _ (w m : List ℕ) where
   unfolding clearedOf
   free-not j h = rw (eq-eqb _ _ h)
 
--- the eight words of which k lower and k upper ends of the whole space are cut out
-pub whole-words : (k : ℕ) → 1 ≤ k → k ≤ 4 → regionAt k (0 ∷ 0 ∷ 0 ∷ 0 ∷ 4294967295 ∷ 4294967295 ∷ 4294967295 ∷ 4294967295 ∷ []) (4 - k) ≡ whole k
+-- the ends of the whole space of k domains are cut out of its entry
+pub whole-words : (k : ℕ) → 1 ≤ k → k ≤ 4 → regionAt k wholeWords (4 - k) ≡ whole k
 whole-words zero h g = absurd (omega arith)
 whole-words (suc zero) h g = refl
 whole-words (suc (suc zero)) h g = refl

@@ -3,6 +3,7 @@
 use kdb::Form;
 use pages::point_page;
 use pages::region_page;
+use words::WHOLE;
 use words::get;
 use words::put;
 use words::read;
@@ -97,8 +98,7 @@ fn walk(p: &[u32], f: Form, met: &mut [u32]) -> Seen
     if levels == 0 {
         return s;
     }
-    let whole: [u32; 8] = [0, 0, 0, 0, 4294967295, 4294967295, 4294967295, 4294967295];
-    page(p, f, levels, get(p, 2), &whole, 4 - f.domains, met, s)
+    page(p, f, levels, get(p, 2), &WHOLE, 4 - f.domains, met, s)
 }
 
 // Page j was met, or is all zero.

@@ -13,7 +13,7 @@ use Rattle.kdb.specs.Calls.{L}
 use Rattle.kdb.specs.Pages.{regionsPer, pointsPer}
 use Rattle.kdb.specs.Pool.{rootAt, levelsAt, countAt}
 use Rattle.kdb.specs.declared.Form.{Form}
-use Rattle.words.specs.Words.{Fit, word}
+use Rattle.words.specs.Words.{Fit, word, wholeWords}
 use Rattle.words.proofs.Laws.{pages}
 use Rattle.deal.specs.Part.{claimed, halfIn}
 use Rattle.split.specs.Part.{passed}
@@ -40,11 +40,8 @@ header-is w r l c = ap (λ v. set (set (set v 2 r) 3 l) 4 c) (sym (ap (λ v. set
 count-is : (w : List ℕ) (c : ℕ) → set w 4 c ≡ headIn w (rootAt w) (levelsAt w) c
 count-is w c = ap (λ v. set v 4 c) (sym (ap (λ v. set v 3 (levelsAt w)) (again w 2) ∙ again w 3)) ∙ header-is w (rootAt w) (levelsAt w) c
 
--- the entry of the whole space in the table
-abbrev pub table : List ℕ
-table = 0 ∷ 0 ∷ 0 ∷ 0 ∷ 4294967295 ∷ 4294967295 ∷ 4294967295 ∷ 4294967295 ∷ 0 ∷ []
-
-whole-at : (k : ℕ) → 1 ≤ k → k ≤ 4 → take (2 * k + 1) (drop (4 - k) table) ≡ set (space k) (2 * k) (getD table (4 + k) 0)
+-- the entry of the whole space
+whole-at : (k : ℕ) → 1 ≤ k → k ≤ 4 → take (2 * k + 1) (drop (4 - k) wholeWords) ≡ set (space k) (2 * k) (getD wholeWords (4 + k) 0)
 whole-at zero h g = absurd (omega arith)
 whole-at (suc zero) h g = refl
 whole-at (suc (suc zero)) h g = refl
@@ -52,9 +49,9 @@ whole-at (suc (suc (suc zero))) h g = refl
 whole-at (suc (suc (suc (suc zero)))) h g = refl
 whole-at (suc (suc (suc (suc (suc k))))) h g = absurd (omega arith)
 
-pub whole-half : (k i x q : ℕ) → 1 ≤ k → k ≤ 4 → i < 2 * k → halfIn k table (4 - k) i x q ≡ set (set (space k) i x) (2 * k) q
+pub whole-half : (k i x q : ℕ) → 1 ≤ k → k ≤ 4 → i < 2 * k → halfIn k wholeWords (4 - k) i x q ≡ set (set (space k) i x) (2 * k) q
 whole-half k i x q h g l =
-    let v = getD table (4 + k) 0 in
+    let v = getD wholeWords (4 + k) 0 in
     ap (λ u. set (set u i x) (2 * k) q) (whole-at k h g)
     ∙ ap (λ u. set u (2 * k) q) (set-comm (space k) (2 * k) i v x (λ z. omega arith)) ∙ set-set (set (space k) i x) (2 * k) v q
 

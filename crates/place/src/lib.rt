@@ -6,6 +6,7 @@ use grow::Grown;
 use grow::grow;
 use grow::write_record;
 use kdb::Form;
+use words::WHOLE;
 use words::clear;
 use words::copy;
 use words::get;
@@ -25,9 +26,6 @@ ghost use Rattle.steps.specs.Machine.{headIn};
 ghost use Rattle.steps.specs.Place.{rootIn, toppedIn, firstIn, placeIn};
 ghost use Rattle.steps.specs.Remove.{downIn, removeIn};
 ghost use Rattle.place.specs.Steps.{Topping, stepsIn};
-
-// The entry of the whole space of k domains stands at word 4 - k.
-const WHOLE: [u32; 9] = [0, 0, 0, 0, u32::MAX, u32::MAX, u32::MAX, u32::MAX, 0];
 
 // The header's root, levels and count.
 fn write_header(pool: &mut [u32], root: usize, levels: usize, count: usize)

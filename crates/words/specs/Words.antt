@@ -1,12 +1,12 @@
 -- The words that the accessors give, over a whole pool. A word past the end is 0.
 use mathlib.Core.Bool.{Bool, true, cond}
-use mathlib.Core.List.{List}
+use mathlib.Core.List.{List, [], _∷_}
 use mathlib.Core.Path.{_≡_}
 use Prim.Native.Nat.{ℕ, zero, suc, _+_, _-_, _*_, _^_, _≤_, _<_}
 use lib.Dec.{eqb}
 use lib.ListN.{length, take, drop, getD}
 use Rattle.kdb.specs.Lists.{only, upFrom}
-use Rattle.kdb.specs.Box.{Box, Key, sides}
+use Rattle.kdb.specs.Box.{∞, Box, Key, sides}
 use Rattle.kdb.specs.Tree.{Rec}
 use Rattle.kdb.specs.Pages.{regionsPer, pointsPer, readRecs}
 use Rattle.kdb.specs.Pool.{domains, pagesIn, goodLength}
@@ -84,6 +84,10 @@ keysOf k w j e = take k (drop (keyPlace k j e 0) w)
 -- of c records of page j, those from slot e on
 abbrev pub recordsFrom : ℕ → List ℕ → ℕ → ℕ → ℕ → List Rec
 recordsFrom k w j c e = readRecs k (c - e) (drop (keyPlace k j e 0) w)
+
+-- an entry of the whole space, as code has it
+abbrev pub wholeWords : List ℕ
+wholeWords = 0 ∷ 0 ∷ 0 ∷ 0 ∷ ∞ ∷ ∞ ∷ ∞ ∷ ∞ ∷ 0 ∷ []
 
 -- the region at word a, and the record in slot e of page j, with its location, end within the pool
 pub record RegionIn (w : List ℕ) (k a : ℕ) : Type 0 where

@@ -11,6 +11,9 @@ ghost use Rattle.words.specs.Words.{wordAt, pageCount, formOf, capacityO
 // Regions and points a page, by K from 1 to 4.
 const CAPACITIES: [[u32; 4]; 2] = [[9, 5, 4, 3], [14, 9, 7, 5]];
 
+// An entry of the whole space: of k domains it stands at word 4 - k.
+pub const WHOLE: [u32; 9] = [0, 0, 0, 0, u32::MAX, u32::MAX, u32::MAX, u32::MAX, 0];
+
 // The word at `at`, and 0 past the end.
 pub fn get(pool: &[u32], at: usize) -> usize
     ensures { λ r. ⌜ (r ≡ getD (now (pool .entry)) at 0) × (r < 2 ^ 32) ⌝ }
