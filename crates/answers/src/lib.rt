@@ -1,3 +1,5 @@
+#![tactic(auto)]
+
 // The answer of a call as text: its number, its values, and the locations that a list's slots took.
 ghost use Rattle.std.specs.Prelude.{◌≡◌, [], ◌+◌, ◌≤◌, ◌^◌, length};
 ghost use Rattle.kdb.specs.Calls.{Buffers};

@@ -1,3 +1,5 @@
+#![tactic(auto)]
+
 // The audit of a pool: whether it is sound, for every pool. One walk from the root with a mark for each page met, so that no page is looked
 // at twice; then the pages not met are all zero.
 ghost use Rattle.std.specs.Prelude.{◌≡◌, true, false, ◌+◌, ◌*◌, ◌-◌, ◌<◌};

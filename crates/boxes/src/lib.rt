@@ -1,3 +1,5 @@
+#![tactic(auto)]
+
 // Tests of regions, windows and keys on the words of a pool, each a loop over the domains.
 ghost use Rattle.std.specs.Prelude.{◌≡◌, ◌+◌, ◌*◌, ◌≤◌, ◌<◌, length};
 ghost use Rattle.kdb.specs.Lists.{same};

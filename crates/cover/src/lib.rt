@@ -1,3 +1,5 @@
+#![tactic(auto)]
+
 // The exact test that the regions of a page tile a region, for every arrangement: each not empty and inside, no two with a common key,
 // and as many keys together as the region has.
 ghost use Rattle.std.specs.Prelude.{◌≡◌, true, false, ◌+◌, ◌*◌, ◌-◌, ◌≤◌, ◌<◌, ◌^◌, T};

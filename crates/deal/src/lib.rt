@@ -1,3 +1,5 @@
+#![tactic(auto)]
+
 // Dealing out a page along a cut: a page is claimed, and the entries go from a copy of the page to the two sides, each behind the last one
 // there; an entry that crosses goes to both, as halves.
 ghost use Rattle.std.specs.Prelude.{◌&&◌, cond, ◌≡◌, ◌+◌, ◌*◌, ◌≤◌, ◌<◌, ◌^◌, leb, ltb, length, take, drop, get_or, set};

@@ -1,3 +1,5 @@
+#![tactic(auto)]
+
 // The six calls for C and Rust, as include/korytanka.h has them. No call asks anything of its caller.
 ghost use Rattle.std.specs.Prelude.{[], ◌∷◌, ◌≡◌};
 ghost use Rattle.kdb.specs.Calls.{format, check, place, remove, find, list, Buffers, alone, working, answering, Promise};

@@ -1,3 +1,5 @@
+#![tactic(auto)]
+
 // A line of bytes to its answer, and a stream of bytes to its output.
 ghost use Rattle.std.specs.Prelude.{◌≡◌, ◌+◌, min, length, set, take};
 ghost use Rattle.kdb.specs.Frames.{parse, reply};

@@ -1,3 +1,5 @@
+#![tactic(auto)]
+
 // A page takes an entry: with room, or split along its chosen cut; down the first entry that holds the point, and up again as long as
 // pages break.
 ghost use Rattle.std.specs.Prelude.{map, ◌≡◌, ◌+◌, ◌*◌, ◌≤◌, ◌<◌, ◌^◌, length, drop, set};

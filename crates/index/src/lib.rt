@@ -1,3 +1,5 @@
+#![tactic(auto)]
+
 // The public calls that write to the pool: format, place and remove. They have no requires: every input has an answer, and the promise
 // says which.
 ghost use Rattle.std.specs.Prelude.{◌≡◌, length};

@@ -81,7 +81,8 @@ next_above s x (a ∷ l) h n e =
         let i : a ≡ x = cc in
         let lt = ltb→lt s a (subst T (sym q) tt) in
         let none_left : many s l ≡ 0 = omega (arith, h.0, tally_imp (eqb s) (λ y. ltb y a) (λ y t. lt→ltb y a (omega (arith, eqb→eq s y t))) l) in
-        rw (← i) (omega (arith, none_below a a (omega arith), h.0, no_bit (eqb s a) (λ t. omega (arith, eqb→eq s a t))))
+        subst (λ z. tally (λ y. ltb y z) (a ∷ l) ≡ many s (a ∷ l)) i
+        (omega (arith, none_below a a (omega arith), h.0, no_bit (eqb s a) (λ t. omega (arith, eqb→eq s a t))))
     go false q e r =
         let ge : a ≤ s = nltb→le s a (subst (λ z. T (not z)) (sym q) tt) in
         let same : s ≡ a = omega (arith, below_none s a (omega arith)) in

@@ -1,3 +1,5 @@
+#![tactic(auto)]
+
 // Definitions and theorems: what the signal index means. It has no function, and the types that definitions and code share.
 
 // Why a call was refused, in the order of document 01's numbers.
@@ -15,7 +17,7 @@ pub enum Refusal {
 }
 
 // The form of a pool: how many pages it has, and how many domains.
-#[derive(Drop)]
+#[derive(Clone, Copy)]
 pub struct Form {
     pub pages: usize,
     pub domains: usize,

@@ -1,3 +1,5 @@
+#![tactic(auto)]
+
 // Reads frames from standard input, a line each, and writes the answers to standard output after each read.
 ghost use Rattle.std.specs.Prelude.{true, ◌≡◌, ◌≤◌, length};
 ghost use Rattle.frames.specs.State.{store_of, kept};

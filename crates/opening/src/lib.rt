@@ -1,3 +1,5 @@
+#![tactic(auto)]
+
 // The tests that calls begin with, and what a refusal is called.
 ghost use Rattle.std.specs.Prelude.{◌≡◌, [], ◌∷◌, ◌++◌};
 ghost use Rattle.kdb.specs.Print.{sound};

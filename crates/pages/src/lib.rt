@@ -1,3 +1,5 @@
+#![tactic(auto)]
+
 // The tests of one page: a point page or a region page of a region, with its layout, for every page of every pool.
 ghost use Rattle.std.specs.Prelude.{◌≡◌, true, false, cond, ◌+◌, ◌*◌, ◌-◌, ◌≤◌, ◌<◌, drop};
 ghost use Rattle.kdb.specs.Lists.{every, same};

@@ -1,3 +1,5 @@
+#![tactic(auto)]
+
 // Placing and removing in a pool: the root grows, a new root or the first page is claimed, and the header is written last.
 ghost use Rattle.std.specs.Prelude.{◌≡◌, ◌+◌, ◌<◌, ◌^◌, length};
 ghost use Rattle.kdb.specs.Calls.{L};

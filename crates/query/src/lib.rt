@@ -1,3 +1,5 @@
+#![tactic(auto)]
+
 // The public calls that leave the pool as it is: check, find and list. They have no requires: every input has an answer, and the promise
 // says which.
 ghost use Rattle.std.specs.Prelude.{◌≡◌, cond, ◌*◌, length};

@@ -1,3 +1,5 @@
+#![tactic(auto)]
+
 // A frame's bytes to its reply: the first byte decides which call is made, and its outcome is written as text.
 ghost use Rattle.std.specs.Prelude.{◌≡◌, ◌+◌, ◌≤◌, ◌^◌, length, take};
 ghost use Rattle.std.proofs.Math.Option.{some};

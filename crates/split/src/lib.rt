@@ -1,3 +1,5 @@
+#![tactic(auto)]
+
 // Splitting a page along a cut: its entries are dealt out, and an entry that crosses has its child's page split first.
 ghost use Rattle.std.specs.Prelude.{◌≡◌, ◌<◌, ◌^◌};
 ghost use Rattle.kdb.specs.Steps.{after_forced};

@@ -1,3 +1,5 @@
+#![tactic(auto)]
+
 // Digits, bytes and words of a frame's text: reading a line, and writing an answer.
 ghost use Rattle.std.specs.Prelude.{◌≡◌, cond, [], ◌+◌, ◌*◌, ◌≤◌, ◌<◌, ◌^◌, length, get_or, set};
 ghost use Rattle.kdb.specs.Lists.{gather};

@@ -1,3 +1,5 @@
+#![tactic(auto)]
+
 // The walks over a pool's pages: the one search for a point, and list's walk of a window.
 ghost use Rattle.std.specs.Prelude.{◌≡◌, true, false, ◌&&◌, cond, ◌+◌, ◌*◌, ◌-◌, ◌≤◌, ◌<◌, ◌^◌, leb, ltb, length, take, drop, set};
 ghost use Rattle.kdb.specs.Lists.{bit};
@@ -25,7 +27,7 @@ pub enum Sought {
 }
 
 // What list's walk has counted, and whether it has stopped at a bad page or at the bound.
-#[derive(Drop)]
+#[derive(Clone, Copy)]
 pub struct Tally {
     pub reads: usize,
     pub total: usize,

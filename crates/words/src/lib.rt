@@ -1,3 +1,5 @@
+#![tactic(auto)]
+
 // Words of a lent pool: what is read and written of a page, and nothing of the tree.
 ghost use Rattle.std.specs.Prelude.{◌≡◌, ◌+◌, ◌*◌, ◌-◌, ◌≤◌, ◌<◌, ◌^◌, min, max, length, get_or, set, replicate};
 ghost use Rattle.std.proofs.lemmas.List.Edits.{sets};

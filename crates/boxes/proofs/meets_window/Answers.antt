@@ -1,0 +1,23 @@
+-- `boxes::meets_window` meets its contract: the loop over the domains is `meets`.
+use Rattle.boxes.proofs.Tests as tests
+use Rattle.boxes.specs.Tests.{meets_at}
+use Rattle.words.specs.Words.{region_at}
+use Rattle.kdb.specs.Calls.{window_of}
+use Rattle.kdb.specs.Box.{meets}
+use Rattle.words.proofs.Loops.{all_end, all_next}
+use Rattle.words.specs.Loops.{all_by}
+use native.Mathlib.Nat.{sub-zero}
+use mathlib.Core.Path.{◌≡◌}
+use Prim.Native.Nat.{◌≤◌, ◌-◌}
+use borrow.Author.Rules.{rules}
+use native.Mathlib.Omega.{arith}
+use Rattle.boxes.proofs.meets_window.Goals as goal
+
+pub loop-d-init : goal.loop-d-init
+loop-d-init c = let a = c.args in (omega arith, rw (sub-zero a.k) (tests.meets_window a.k a.window.now c.requires.1 a.pool.now a.at c.requires.0))
+
+pub loop-d-preserved : goal.loop-d-preserved
+loop-d-preserved c = (omega arith, rw (c.larger-low.ensures, c.read.ensures.0, c.lower_end.ensures.0, c.upper_end.ensures.0, c.read-in-loop-d.ensures.0) (all_next _ _ _ _ _ _ _ c.loop-d.invariant.1 (omega arith)))
+
+pub returns : goal.returns
+returns c = all_end _ _ _ _ _ _ _ c.loop-d.invariant.1 (omega arith)

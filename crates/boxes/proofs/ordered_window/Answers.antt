@@ -1,0 +1,21 @@
+-- `boxes::ordered_window` meets its contract: the loop over the domains is `ordered`.
+use Rattle.boxes.proofs.Tests as tests
+use Rattle.boxes.specs.Tests.{ordered_at}
+use Rattle.kdb.specs.Calls.{window_of, ordered}
+use Rattle.words.proofs.Loops.{all_end, all_next}
+use Rattle.words.specs.Loops.{all_by}
+use native.Mathlib.Nat.{sub-zero}
+use mathlib.Core.Path.{◌≡◌}
+use Prim.Native.Nat.{◌≤◌, ◌-◌}
+use borrow.Author.Rules.{rules}
+use native.Mathlib.Omega.{arith}
+use Rattle.boxes.proofs.ordered_window.Goals as goal
+
+pub loop-d-init : goal.loop-d-init
+loop-d-init c = let a = c.args in (omega arith, rw (sub-zero a.k) (tests.ordered_window a.k a.window.now c.requires.1))
+
+pub loop-d-preserved : goal.loop-d-preserved
+loop-d-preserved c = (omega arith, rw (c.read.ensures.0, c.read-in-loop-d.ensures.0) (all_next _ _ _ _ _ _ _ c.loop-d.invariant.1 (omega arith)))
+
+pub returns : goal.returns
+returns c = all_end _ _ _ _ _ _ _ c.loop-d.invariant.1 (omega arith)

@@ -1,0 +1,16 @@
+-- `export::korytanka_list` keeps the promise of the call that it passes on: each case crosses as its number, its fields and the buffers.
+use Rattle.export.proofs.Crossing.{refused_two, promise_fits}
+use borrow.Author.Rules.{rules}
+use Rattle.export.proofs.korytanka_list.Goals as goal
+
+pub overflow_cast-result : goal.overflow_cast-result
+overflow_cast-result c = (promise_fits (rw c.total-1.given.1 at c.list.ensures) c.type_inv.pool).0
+
+pub overflow_cast-result-in-Counted : goal.overflow_cast-result-in-Counted
+overflow_cast-result-in-Counted c = (promise_fits (rw c.total-1.given.1 at c.list.ensures) c.type_inv.pool).1.0
+
+pub returns-in-Counted : goal.returns-in-Counted
+returns-in-Counted c = rw c.total-1.given.1 at c.list.ensures
+
+pub returns-in-Refused : goal.returns-in-Refused
+returns-in-Refused c = refused_two c.r-1.given.0.0 c.number.ensures c.not_listed.ensures (rw c.r-1.given.1 at c.list.ensures)

@@ -1,0 +1,6 @@
+-- `frames::feed` meets its contract: words past the buffer's end count as its end.
+use borrow.Author.Rules.{rules}
+use Rattle.frames.proofs.feed.Goals as goal
+
+pub returns : goal.returns
+returns c = rw c.smaller.ensures at c.feed_all.ensures

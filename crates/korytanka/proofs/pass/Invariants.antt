@@ -1,0 +1,17 @@
+-- `korytanka::pass` meets its contract: part by part; all that is kept is that after the bytes fed so far.
+use Rattle.frames.proofs.Bytes.{fed_some, fed_on}
+use Rattle.frames.specs.State.{store_of, kept}
+use lib.Seq.{length-take-le, take_all}
+use lib.Dec.{T}
+use lib.ListN.{length, take, drop, length-take, length-drop}
+use mathlib.Core.Path.{◌≡◌, sym, ap, subst, ◌∙◌}
+use Prim.Native.Nat.{◌-◌, ◌≤◌, min}
+use borrow.Author.Rules.{rules}
+use native.Mathlib.Omega.{arith}
+use Rattle.korytanka.proofs.pass.Given as goal
+
+abbrev pub invariant-loop-at : goal.invariant-loop-at
+invariant-loop-at l = (l.at ≤ length l.piece) × ((length l.out ≡ 65536) × ((l.words ≤ 16384) × (store_of l.words l.digits l.line l.pool l.work ≡ kept (store_of l.initial.words l.initial.digits l.initial.line l.initial.pool l.initial.work) (take l.at l.piece))))
+
+abbrev pub decreases-loop-at : goal.decreases-loop-at
+decreases-loop-at l = length l.piece - l.at

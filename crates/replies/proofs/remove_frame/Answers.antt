@@ -1,0 +1,26 @@
+-- `replies::remove_frame` meets its contract: no frame, or the outcome of remove.
+use Rattle.replies.proofs.Replies.{unframed, counted_some, counted_none}
+use lib.Seq.{length-take-le}
+use lib.ListN.{take}
+use mathlib.Core.Path.{sym}
+use Rattle.replies.proofs.Calls.{remove_replied}
+use Rattle.kdb.specs.Calls.{alone}
+use borrow.Author.Rules.{rules}
+use native.Mathlib.Omega.{arith}
+use Rattle.replies.proofs.remove_frame.Goals as goal
+
+pub returns-then-n-gt16 : goal.returns-then-n-gt16
+returns-then-n-gt16 c = let a = c.args in
+    rw (counted_none 16 a.n a.list.now c.if-n-gt16.true) (unframed a.pool.now a.words c.no_frame.ensures (omega arith) (omega arith))
+
+pub slice_bounds-remove-end-2 : goal.slice_bounds-remove-end-2
+slice_bounds-remove-end-2 c = sym (length-take-le _ _ (omega arith))
+
+pub slice_bounds-remove-end-3 : goal.slice_bounds-remove-end-3
+slice_bounds-remove-end-3 c = sym (length-take-le _ _ (omega arith))
+
+pub returns : goal.returns
+returns c = let a = c.args in
+    let p = c.remove in
+    rw (counted_some 16 a.n a.list.now c.if-n-gt16.false)
+    (remove_replied p.result a.words a.pool.now p.new.0 (take a.n a.list.now) p.ensures (c.removed_values-v.ensures (alone p.new.0)) p.auto.0 (omega arith) c.put_answer.ensures.0 c.put_answer.ensures.1 (omega arith))

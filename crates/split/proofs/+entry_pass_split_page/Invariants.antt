@@ -1,0 +1,16 @@
+-- `split::entry_pass` and `split::split_page`, which call each other, meet their contracts.
+use Prim.Native.Nat.{ℕ, ◌≤◌, ◌<◌, ◌-◌, ◌+◌, ◌*◌}
+use native.Mathlib.Nat.{sub-zero}
+use mathlib.Core.Path.{◌≡◌, refl, sym, ◌∙◌}
+use lib.ListN.{length}
+use Rattle.steps.specs.Split.{entries_in, split_in}
+use Rattle.split.proofs.Laws as laws
+use borrow.Author.Rules.{rules}
+use native.Mathlib.Omega.{arith}
+use Rattle.split.proofs.+entry_pass_split_page.Given as goal
+
+abbrev pub invariant-entry_pass-loop-i : goal.invariant-entry_pass-loop-i
+invariant-entry_pass-loop-i l = (l.i ≤ l.m) × (l.a ≤ 4 + 9 * l.i) × (length l.pool ≡ length l.initial.pool) × (entries_in 32 l.f.domains l.d l.x (split_in 32 l.f.pages l.f.domains l.d l.x l.level) (l.m - l.i) l.src l.a l.j l.r l.pool ≡ entries_in 32 l.f.domains l.d l.x (split_in 32 l.f.pages l.f.domains l.d l.x l.level) l.m l.src 4 l.j l.r l.initial.pool)
+
+abbrev pub decreases-entry_pass-loop-i : goal.decreases-entry_pass-loop-i
+decreases-entry_pass-loop-i l = l.m - l.i

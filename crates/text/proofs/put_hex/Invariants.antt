@@ -1,0 +1,12 @@
+-- `text::put_hex` meets its contract: the last digit first; those still to be written are the digits of what is left.
+use Rattle.text.proofs.Write.{Hexed, hexed_next, hexed_end}
+use mathlib.Core.Path.{refl}
+use borrow.Author.Rules.{rules}
+use native.Mathlib.Omega.{arith}
+use Rattle.text.proofs.put_hex.Given as goal
+
+abbrev pub invariant-loop-left : goal.invariant-loop-left
+invariant-loop-left l = Hexed l.initial.out l.at l.n l.v l.out l.left l.rest
+
+abbrev pub decreases-loop-left : goal.decreases-loop-left
+decreases-loop-left l = l.left

@@ -1,0 +1,21 @@
+-- `walk::child_for` meets its contract: what is left of the entries gives the child of the whole; what is left ends within the page.
+use Rattle.walk.proofs.Seek.{child_end, child_here, child_next}
+use Rattle.walk.proofs.Pages.{room_next}
+use Rattle.walk.specs.Seek.{child_of}
+use Rattle.words.specs.Words.{word_at}
+use Rattle.kdb.specs.Calls.{L}
+use Rattle.kdb.specs.Pages.{read_ents}
+use lib.ListN.{drop}
+use native.Mathlib.Nat.{sub-zero}
+use mathlib.Core.Path.{◌≡◌, sym, ◌∙◌}
+use Prim.Native.Nat.{◌+◌, ◌-◌, ◌*◌, ◌≤◌}
+use borrow.Author.Rules.{rules}
+use native.Mathlib.Omega.{arith}
+use Rattle.walk.proofs.child_for.Given as goal
+
+abbrev pub invariant-loop-e : goal.invariant-loop-e
+invariant-loop-e l = (l.e ≤ l.count) × (l.count ≡ word_at l.pool l.j 1) × (l.at + (l.count - l.e) * (2 * l.k + 1) ≤ 32 * l.j + 32)
+    × (child_of l.point (read_ents l.k (l.count - l.e) (drop l.at l.pool)) ≡ child_of l.point (read_ents l.k (word_at l.pool l.j 1) (drop (L * l.j + 4) l.pool)))
+
+abbrev pub decreases-loop-e : goal.decreases-loop-e
+decreases-loop-e l = l.count - l.e

@@ -1,0 +1,18 @@
+-- `walk::descend` meets its contract: the walk from the page reached, after the pages read, is the walk from the root.
+use Rattle.walk.proofs.Seek.{down_out, down_bad, down_next}
+use Rattle.walk.proofs.Pages.{region_page_lem}
+use Rattle.walk.specs.Seek.{sought_as}
+use Rattle.kdb.specs.Calls.{L}
+use Rattle.kdb.specs.Walk.{seek}
+use borrow.Author.Tests.{not-true, not-false}
+use mathlib.Core.Path.{◌≡◌, refl, sym, ◌∙◌}
+use Prim.Native.Nat.{◌+◌, ◌-◌, ◌^◌, ◌<◌, ◌≤◌}
+use borrow.Author.Rules.{rules}
+use native.Mathlib.Omega.{arith}
+use Rattle.walk.proofs.descend.Given as goal
+
+abbrev pub invariant-loop-left : goal.invariant-loop-left
+invariant-loop-left l = (l.j < 2 ^ 32) × (l.left + l.reads ≤ l.levels) × (sought_as l.reads (seek L l.pool l.point (l.left - 1) l.j) ≡ sought_as 0 (seek L l.pool l.point (l.levels - 1) l.root))
+
+abbrev pub decreases-loop-left : goal.decreases-loop-left
+decreases-loop-left l = l.left

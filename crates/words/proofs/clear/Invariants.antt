@@ -1,0 +1,15 @@
+-- `words::clear` meets its contract: what is left to store gives what the whole gives.
+use Rattle.words.proofs.Loops.{clear_end, clear_next}
+use lib.Seq.{sets}
+use lib.ListN.{length, replicate, length-set}
+use mathlib.Core.Path.{◌≡◌, refl, ◌∙◌}
+use Prim.Native.Nat.{◌-◌}
+use borrow.Author.Rules.{rules}
+use native.Mathlib.Omega.{arith}
+use Rattle.words.proofs.clear.Given as goal
+
+abbrev pub invariant-loop-i : goal.invariant-loop-i
+invariant-loop-i l = (length l.x ≡ length l.initial.x) × (sets l.x l.i (replicate (l.to - l.i) 0) ≡ sets l.initial.x l.from (replicate (l.to - l.from) 0))
+
+abbrev pub decreases-loop-i : goal.decreases-loop-i
+decreases-loop-i l = l.end - l.i
