@@ -1,7 +1,7 @@
 -- Laws of one turn and of the end of the loops over the points of a page and over their keys.
 use mathlib.Core.Bool.{Bool, true, false, ◌&&◌}
 use mathlib.Core.List.{List, [], ◌∷◌}
-use mathlib.Core.Path.{◌≡◌, refl, sym, ap, ◌∙◌}
+use mathlib.Core.Path.{◌≡◌, refl, sym, ap, subst, ◌∙◌}
 use Prim.Native.Nat.{ℕ, suc, ◌+◌, ◌-◌, ◌<◌, ◌≤◌}
 use native.Mathlib.Omega.{arith}
 use native.Mathlib.Nat.{zero-add}
@@ -111,8 +111,10 @@ module _ (k d : ℕ) where
       let x = key_inside s (get_or q.key d 0) in
       let y = within r (drop (suc d) q.key) in
       let u = column_in d s rs in
-      rw (add-one d, drop-cons q.key d 0 (omega (arith, h.0)))
-      (ap (λ t. (x && y) && t) (rw (add-one d) at (columns s r rs h.1 l)) ∙ (and_assoc x y _ ∙ (ap (λ t. x && t) (and_swap y u _) ∙ sym (and_assoc x u _))))
+      subst (λ n. every (λ a. within (s ∷ r) (drop d a.key)) (q ∷ rs) ≡ column_in d s (q ∷ rs) && every (λ a. within r (drop n a.key)) (q ∷ rs)) (sym (add-one d))
+      (rw (drop-cons q.key d 0 (omega (arith, h.0)))
+      (ap (λ t. (x && y) && t) (subst (λ n. every (λ a. within (s ∷ r) (drop d a.key)) rs ≡ column_in d s rs && every (λ a. within r (drop n a.key)) rs) (add-one d) (columns s r rs h.1 l))
+      ∙ (and_assoc x y _ ∙ (ap (λ t. x && t) (and_swap y u _) ∙ sym (and_assoc x u _)))))
 
   columns_end : (rs : List Rec) → Each (λ q. length q.key ≡ k) rs → k ≤ d → every (λ q. within [] (drop d q.key)) rs ≡ true
   columns_end [] h l = refl

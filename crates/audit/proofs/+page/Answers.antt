@@ -19,64 +19,76 @@ use Prim.Native.Nat.{ℕ, ◌<◌}
 use Rattle.audit.proofs.+page.Goals as goal
 
 pub returns-then-not-fresh : goal.returns-then-not-fresh
-returns-then-not-fresh t c = page_bad _ _ _ c.requires.1.0.formed _ _ _ _ (sym c.fresh.ensures ∙ c.if-not-fresh.true)
+returns-then-not-fresh t c = page_bad _ _ _ c.requires.0.formed _ _ _ _ (sym c.fresh.ensures ∙ c.if-not-fresh.true)
 
 pub leaf-requires : goal.leaf-requires
-leaf-requires t c = let h = c.requires.1 in
-    (h.0, ((page_fresh t c.before.before.before.before.before).number, h.1))
+leaf-requires t c = let h = c.requires in
+    (h.0, ((fresh_within c.args.p.now c.args.f c.requires.0.formed c.args.j c.args.met.now c.args.s (sym c.fresh.ensures ∙ c.if-not-fresh.false)).number, h.1))
 
 pub returns-then-level-le1 : goal.returns-then-level-le1
-returns-then-level-le1 t c = rw (c.leaf.ensures, c.put.ensures) (page_leaf _ _ _ c.requires.1.0.formed _ _ _ _ (sym c.fresh.ensures ∙ c.if-not-fresh.false) c.if-level-le1.true)
+returns-then-level-le1 t c = rw (c.leaf.ensures, c.put.ensures) (page_leaf _ _ _ c.requires.0.formed _ _ _ _ (sym c.fresh.ensures ∙ c.if-not-fresh.false) c.if-level-le1.true)
 
 pub region_page-requires : goal.region_page-requires
-region_page-requires t c = let h = c.requires.1 in
-    (h.0, ((page_fresh t c.before.before.before.before.before).number, h.1))
+region_page-requires t c = let h = c.requires in
+    (h.0, ((fresh_within c.args.p.now c.args.f c.requires.0.formed c.args.j c.args.met.now c.args.s (sym c.fresh.ensures ∙ c.if-not-fresh.false)).number, h.1))
 
 pub returns-then-not-region_page : goal.returns-then-not-region_page
-returns-then-not-region_page t c = rw c.put.ensures (page_spoilt _ _ _ c.requires.1.0.formed _ _ _ _ (sym c.fresh.ensures ∙ c.if-not-fresh.false) c.if-level-le1.false (sym c.region_page.ensures ∙ c.if-not-region_page.true))
+returns-then-not-region_page t c = rw c.put.ensures (page_spoilt _ _ _ c.requires.0.formed _ _ _ _ (sym c.fresh.ensures ∙ c.if-not-fresh.false) c.if-level-le1.false (sym c.region_page.ensures ∙ c.if-not-region_page.true))
 
 pub overflow_mul-j : goal.overflow_mul-j
-overflow_mul-j t c = let i = page_fresh t c.before.before.before.before.before.before.before in omega arith
+overflow_mul-j t c = let i = fresh_within c.args.p.now c.args.f c.requires.0.formed c.args.j c.args.met.now c.args.s (sym c.fresh.ensures ∙ c.if-not-fresh.false) in omega arith
 
 pub overflow_add-j : goal.overflow_add-j
-overflow_add-j t c = let i = page_fresh t c.before.before.before.before.before.before.before in omega arith
+overflow_add-j t c = let i = fresh_within c.args.p.now c.args.f c.requires.0.formed c.args.j c.args.met.now c.args.s (sym c.fresh.ensures ∙ c.if-not-fresh.false) in omega arith
 
 pub read-count-requires : goal.read-count-requires
-read-count-requires t c = let i = page_fresh t c.before.before.before.before.before.before.before in omega arith
+read-count-requires t c = let i = fresh_within c.args.p.now c.args.f c.requires.0.formed c.args.j c.args.met.now c.args.s (sym c.fresh.ensures ∙ c.if-not-fresh.false) in omega arith
 
 pub overflow_mul-at : goal.overflow_mul-at
-overflow_mul-at t c = let i = page_fresh t c.before.before.before.before.before.before.before.before in omega arith
+overflow_mul-at t c = let i = fresh_within c.args.p.now c.args.f c.requires.0.formed c.args.j c.args.met.now c.args.s (sym c.fresh.ensures ∙ c.if-not-fresh.false) in omega arith
 
 pub overflow_add-at : goal.overflow_add-at
-overflow_add-at t c = let i = page_fresh t c.before.before.before.before.before.before.before.before in omega arith
+overflow_add-at t c = let i = fresh_within c.args.p.now c.args.f c.requires.0.formed c.args.j c.args.met.now c.args.s (sym c.fresh.ensures ∙ c.if-not-fresh.false) in omega arith
 
 pub loop-e-init : goal.loop-e-init
-loop-e-init t c = let h = c.requires.1 in
-    let m = entries_of _ _ _ h.0 (page_fresh t c.before.before.before.before.before.before.before.before).number _ c.read-count.result c.read-count.ensures.0 (sym c.region_page.ensures ∙ c.if-not-region_page.false) in
+loop-e-init t c = let h = c.requires in
+    let m = entries_of _ _ _ h.0 (fresh_within c.args.p.now c.args.f c.requires.0.formed c.args.j c.args.met.now c.args.s (sym c.fresh.ensures ∙ c.if-not-fresh.false)).number _ c.read-count.result c.read-count.ensures.0 (sym c.region_page.ensures ∙ c.if-not-region_page.false) in
     (omega arith, m.0, refl, simp sub-zero (rw m.1))
 
 pub overflow_mul-k : goal.overflow_mul-k
-overflow_mul-k t c = let r = page_entry t c in omega arith
+overflow_mul-k t c = let r = region_first c.args.p.now c.args.f.domains c.loop-e.at c.read-count.result c.loop-e.e c.loop-e.invariant.1 c.loop-e-test.true in
+    let w = row_first c.args.p.now (2 * c.args.f.domains + 1) c.loop-e.at c.read-count.result c.loop-e.e c.loop-e.invariant.1 c.loop-e-test.true in
+    omega arith
 
 pub overflow_add-at-in-loop-e : goal.overflow_add-at-in-loop-e
-overflow_add-at-in-loop-e t c = let r = page_entry t c in omega arith
+overflow_add-at-in-loop-e t c = let r = region_first c.args.p.now c.args.f.domains c.loop-e.at c.read-count.result c.loop-e.e c.loop-e.invariant.1 c.loop-e-test.true in
+    let w = row_first c.args.p.now (2 * c.args.f.domains + 1) c.loop-e.at c.read-count.result c.loop-e.e c.loop-e.invariant.1 c.loop-e-test.true in
+    omega arith
 
 pub read-requires : goal.read-requires
-read-requires t c = let r = page_entry t c in omega arith
+read-requires t c = let r = region_first c.args.p.now c.args.f.domains c.loop-e.at c.read-count.result c.loop-e.e c.loop-e.invariant.1 c.loop-e-test.true in
+    let w = row_first c.args.p.now (2 * c.args.f.domains + 1) c.loop-e.at c.read-count.result c.loop-e.e c.loop-e.invariant.1 c.loop-e-test.true in
+    omega arith
 
 pub page-u-requires : goal.page-u-requires
 page-u-requires t c = let d = c.if-level-le1.false in
     let z = c.requires in
-    (omega arith, (z.1.0, (page_entry t c.before.before).0))
+    (omega arith, (z.1.0, region_first c.args.p.now c.args.f.domains c.loop-e.at c.read-count.result c.loop-e.e c.loop-e.invariant.1 c.loop-e-test.true))
 
 pub overflow_mul-at-in-loop-e : goal.overflow_mul-at-in-loop-e
-overflow_mul-at-in-loop-e t c = let r = page_entry t c.before.before.before.before.before in omega arith
+overflow_mul-at-in-loop-e t c = let r = region_first c.args.p.now c.args.f.domains c.loop-e.at c.read-count.result c.loop-e.e c.loop-e.invariant.1 c.loop-e-test.true in
+    let w = row_first c.args.p.now (2 * c.args.f.domains + 1) c.loop-e.at c.read-count.result c.loop-e.e c.loop-e.invariant.1 c.loop-e-test.true in
+    omega arith
 
 pub overflow_add-at-in-loop-e-2 : goal.overflow_add-at-in-loop-e-2
-overflow_add-at-in-loop-e-2 t c = let r = page_entry t c.before.before.before.before.before in omega arith
+overflow_add-at-in-loop-e-2 t c = let r = region_first c.args.p.now c.args.f.domains c.loop-e.at c.read-count.result c.loop-e.e c.loop-e.invariant.1 c.loop-e-test.true in
+    let w = row_first c.args.p.now (2 * c.args.f.domains + 1) c.loop-e.at c.read-count.result c.loop-e.e c.loop-e.invariant.1 c.loop-e-test.true in
+    omega arith
 
 pub overflow_add-at-in-loop-e-3 : goal.overflow_add-at-in-loop-e-3
-overflow_add-at-in-loop-e-3 t c = let r = page_entry t c.before.before.before.before.before in omega arith
+overflow_add-at-in-loop-e-3 t c = let r = region_first c.args.p.now c.args.f.domains c.loop-e.at c.read-count.result c.loop-e.e c.loop-e.invariant.1 c.loop-e-test.true in
+    let w = row_first c.args.p.now (2 * c.args.f.domains + 1) c.loop-e.at c.read-count.result c.loop-e.e c.loop-e.invariant.1 c.loop-e-test.true in
+    omega arith
 
 pub loop-e-preserved : goal.loop-e-preserved
 loop-e-preserved t c = let i = c.loop-e.invariant in
@@ -91,4 +103,4 @@ pub returns : goal.returns
 returns t c = let x = c.args in
     let l = c.loop-e in
     let v = entries_end (λ y. page_walk L x.p.now (x.level - 1 - 1) y.child y.box) x.p.now x.f.domains c.read-count.result l.e l.at l.u l.met _ l.invariant.3 c.loop-e-test.false in
-    (rw c.put.ensures at v) ∙ page_entries _ _ _ c.requires.1.0.formed _ _ x.s _ (sym c.fresh.ensures ∙ c.if-not-fresh.false) c.if-level-le1.false (sym c.region_page.ensures ∙ c.if-not-region_page.false)
+    (rw c.put.ensures at v) ∙ page_entries _ _ _ c.requires.0.formed _ _ x.s _ (sym c.fresh.ensures ∙ c.if-not-fresh.false) c.if-level-le1.false (sym c.region_page.ensures ∙ c.if-not-region_page.false)

@@ -23,3 +23,6 @@ invariant-loop-e l = (l.e ≤ l.count) × Run l.p (2 * l.k + 1) l.at (l.count - 
 
 abbrev pub decreases-loop-e : goal.decreases-loop-e
 decreases-loop-e l = l.count - l.e
+
+abbrev pub decreases-page : goal.decreases-page
+decreases-page l = l.level

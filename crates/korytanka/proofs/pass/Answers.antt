@@ -43,7 +43,7 @@ loop-at-preserved c = let a = c.args in
     let f = c.feed-t in
     let n : length (take (length p - l.at) (drop l.at p)) ≡ length p - l.at = simp (length-take, length-drop) (omega arith) in
     let q : min l.words 16384 ≡ l.words = omega (arith, l.invariant.1.1.0) in
-    (omega (arith, f.ensures.within), (f.auto.1.1.1.1.1.0 ∙ l.invariant.1.0, (f.ensures.bounded, fed_on m p l.at l.invariant.1.1.1 (rw q at f.ensures) (omega arith))))
+    (omega (arith, f.ensures.within), (f.auto.out ∙ l.invariant.1.0, (f.ensures.bounded, fed_on m p l.at l.invariant.1.1.1 (rw q at f.ensures) (omega arith))))
 
 pub shape_of-out : goal.shape_of-out
 shape_of-out c = c.loop-at.invariant.1.0 ∙ sym c.requires.0

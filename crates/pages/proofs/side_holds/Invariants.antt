@@ -13,7 +13,7 @@ use native.Mathlib.Omega.{arith}
 use Rattle.pages.proofs.side_holds.Given as goal
 
 abbrev pub invariant-loop-e : goal.invariant-loop-e
-invariant-loop-e l = Column l.p l.k l.a (l.count - l.e) l.d (record { l.lo = l.lo; l.hi = l.hi }) (column_in l.d (record { l.lo = l.lo; l.hi = l.hi }) (read_recs l.k l.count (drop l.at l.p)))
+invariant-loop-e l = Column l.p l.k l.a (l.count - l.e) l.d (record { lo = l.lo; hi = l.hi }) (column_in l.d (record { lo = l.lo; hi = l.hi }) (read_recs l.k l.count (drop l.at l.p)))
 
 abbrev pub decreases-loop-e : goal.decreases-loop-e
 decreases-loop-e l = l.count - l.e

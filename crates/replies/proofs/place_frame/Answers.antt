@@ -33,6 +33,6 @@ returns c = let a = c.args in
     let p = c.place in
     let k : length (take a.words a.work.now) ≡ length (take a.words a.pool.now) = length-take-le a.words a.work.now (omega (arith, c.requires)) ∙ sym (length-take-le a.words a.pool.now (omega (arith, c.requires))) in
     rw (counted_some 16 a.n a.list.now c.if-n-gt16.false, place_words a.list.now a.n (omega (arith, c.requires)) (omega (arith, c.requires))) (
-      place_replied p.result a.words a.pool.now p.new.0 a.work.now p.new.1.0 (take (a.n - 1) a.list.now) (get_or a.list.now (a.n - 1) 0) p.ensures (c.finished_values-v.ensures (working p.new.1.0 p.new.0)) p.auto.0 k (omega (arith, c.requires)) c.put_answer.ensures.0 c.put_answer.ensures.1 (omega (arith, c.requires)),
-      place_worked p.result a.words a.pool.now p.new.0 a.work.now p.new.1.0 (take (a.n - 1) a.list.now) (get_or a.list.now (a.n - 1) 0) p.ensures p.auto.1.0 (omega (arith, c.requires)),
+      place_replied p.result a.words a.pool.now p.new.pool a.work.now p.new.work (take (a.n - 1) a.list.now) (get_or a.list.now (a.n - 1) 0) p.ensures (c.finished_values-v.ensures (working p.new.work p.new.pool)) p.auto.pool k (omega (arith, c.requires)) c.put_answer.ensures.0 c.put_answer.ensures.1 (omega (arith, c.requires)),
+      place_worked p.result a.words a.pool.now p.new.pool a.work.now p.new.work (take (a.n - 1) a.list.now) (get_or a.list.now (a.n - 1) 0) p.ensures p.auto.work (omega (arith, c.requires)),
     )

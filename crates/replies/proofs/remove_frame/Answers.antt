@@ -23,4 +23,4 @@ pub returns : goal.returns
 returns c = let a = c.args in
     let p = c.remove in
     rw (counted_some 16 a.n a.list.now c.if-n-gt16.false)
-    (remove_replied p.result a.words a.pool.now p.new.0 (take a.n a.list.now) p.ensures (c.removed_values-v.ensures (alone p.new.0)) p.auto.0 (omega arith) c.put_answer.ensures.0 c.put_answer.ensures.1 (omega arith))
+    (remove_replied p.result a.words a.pool.now p.new.pool (take a.n a.list.now) p.ensures (c.removed_values-v.ensures (alone p.new.pool)) p.auto.pool (omega arith) c.put_answer.ensures.0 c.put_answer.ensures.1 (omega arith))

@@ -40,7 +40,7 @@ split_page-shape_of-pool-then-level-eq0 t c = c.part_points.auto.pool
 pub split_page-returns-then-level-eq0 : goal.split_page-returns-then-level-eq0
 split_page-returns-then-level-eq0 t c = let a = c.args in
     let e = (rw (c.copy_part.ensures.0, c.word-m.ensures.0, c.after_forced-e.ensures.0) at c.part_points.ensures.0) in
-    (e ∙ laws.split_points a.f.pages a.pool.now a.j c.requires.1.0.words a.f.domains a.d a.x a.level c.if-level-eq0.true, c.part_points.ensures.1)
+    (e ∙ laws.split_points a.f.pages a.pool.now a.j c.requires.0.words a.f.domains a.d a.x a.level c.if-level-eq0.true, c.part_points.ensures.1)
 
 pub split_page-shape_of-pool-then-r-eq0 : goal.split_page-shape_of-pool-then-r-eq0
 split_page-shape_of-pool-then-r-eq0 t c = c.open_pages-r.auto.pool
@@ -48,7 +48,7 @@ split_page-shape_of-pool-then-r-eq0 t c = c.open_pages-r.auto.pool
 pub split_page-returns-then-r-eq0 : goal.split_page-returns-then-r-eq0
 split_page-returns-then-r-eq0 t c = let a = c.args in
     let o = (rw c.after_forced-e.ensures.0 at c.open_pages-r.ensures.0) in
-    (laws.regions_none _ _ _ _ (split_in 32 a.f.pages a.f.domains a.d a.x (a.level - 1)) _ _ _ _ _ _ _ o c.if-r-eq0.true ∙ laws.split_regions a.f.pages a.pool.now a.j c.requires.1.0.words a.f.domains a.d a.x a.level (a.level - 1) (omega (arith, c.if-level-eq0.false)), omega arith)
+    (laws.regions_none _ _ _ _ (split_in 32 a.f.pages a.f.domains a.d a.x (a.level - 1)) _ _ _ _ _ _ _ o c.if-r-eq0.true ∙ laws.split_regions a.f.pages a.pool.now a.j c.requires.0.words a.f.domains a.d a.x a.level (a.level - 1) (omega (arith, c.if-level-eq0.false)), omega arith)
 
 pub split_page-shape_of-pool-then-entry_pass : goal.split_page-shape_of-pool-then-entry_pass
 split_page-shape_of-pool-then-entry_pass t c = c.entry_pass.auto.pool ∙ c.open_pages-r.auto.pool
@@ -57,7 +57,7 @@ pub split_page-returns-then-entry_pass : goal.split_page-returns-then-entry_pass
 split_page-returns-then-entry_pass t c = let a = c.args in
     let o = (rw c.after_forced-e.ensures.0 at c.open_pages-r.ensures.0) in
     let p = (rw (c.copy_part.ensures.0, c.word-m.ensures.0) at c.entry_pass.ensures) in
-    (laws.regions_whole _ _ _ _ _ _ _ _ _ _ _ _ o c.if-r-eq0.false _ _ p c.if-entry_pass.true ∙ laws.split_regions a.f.pages a.pool.now a.j c.requires.1.0.words a.f.domains a.d a.x a.level (a.level - 1) (omega (arith, c.if-level-eq0.false)), c.open_pages-r.ensures.1)
+    (laws.regions_whole _ _ _ _ _ _ _ _ _ _ _ _ o c.if-r-eq0.false _ _ p c.if-entry_pass.true ∙ laws.split_regions a.f.pages a.pool.now a.j c.requires.0.words a.f.domains a.d a.x a.level (a.level - 1) (omega (arith, c.if-level-eq0.false)), c.open_pages-r.ensures.1)
 
 pub split_page-shape_of-pool-else-entry_pass : goal.split_page-shape_of-pool-else-entry_pass
 split_page-shape_of-pool-else-entry_pass t c = c.entry_pass.auto.pool ∙ c.open_pages-r.auto.pool
@@ -66,4 +66,4 @@ pub split_page-returns-else-entry_pass : goal.split_page-returns-else-entry_pass
 split_page-returns-else-entry_pass t c = let a = c.args in
     let o = (rw c.after_forced-e.ensures.0 at c.open_pages-r.ensures.0) in
     let p = (rw (c.copy_part.ensures.0, c.word-m.ensures.0) at c.entry_pass.ensures) in
-    (laws.regions_short _ _ _ _ _ _ _ _ _ _ _ _ o c.if-r-eq0.false _ _ p c.if-entry_pass.false ∙ laws.split_regions a.f.pages a.pool.now a.j c.requires.1.0.words a.f.domains a.d a.x a.level (a.level - 1) (omega (arith, c.if-level-eq0.false)), omega arith)
+    (laws.regions_short _ _ _ _ _ _ _ _ _ _ _ _ o c.if-r-eq0.false _ _ p c.if-entry_pass.false ∙ laws.split_regions a.f.pages a.pool.now a.j c.requires.0.words a.f.domains a.d a.x a.level (a.level - 1) (omega (arith, c.if-level-eq0.false)), omega arith)

@@ -14,3 +14,9 @@ invariant-entry_pass-loop-i l = (l.i ≤ l.m) × (l.a ≤ 4 + 9 * l.i) × (lengt
 
 abbrev pub decreases-entry_pass-loop-i : goal.decreases-entry_pass-loop-i
 decreases-entry_pass-loop-i l = l.m - l.i
+
+abbrev pub decreases-entry_pass : goal.decreases-entry_pass
+decreases-entry_pass l = 2 * l.level + 1
+
+abbrev pub decreases-split_page : goal.decreases-split_page
+decreases-split_page l = 2 * l.level

@@ -19,5 +19,8 @@ invariant-loop-i l = (length l.answer ≡ length l.initial.answer) × Kept l.f.p
     × (moved_by l.f.pages (seen l.t l.answer) (each (tour L l.pool (window_of l.f.domains l.window) (l.level - 1 - 1)) (take (l.m - l.i) (drop l.i l.child)))
     ≡ moved_by l.f.pages (seen l.initial.t l.initial.answer) (each (tour L l.pool (window_of l.f.domains l.window) (l.level - 1 - 1)) (take l.m l.child)))
 
+abbrev pub decreases-list_page : goal.decreases-list_page
+decreases-list_page l = l.level
+
 abbrev pub decreases-loop-i : goal.decreases-loop-i
 decreases-loop-i l = l.m - l.i

@@ -1,0 +1,4 @@
+use Rattle.grow.proofs.+grow.Given as goal
+
+abbrev pub decreases-grow : goal.decreases-grow
+decreases-grow l = l.level
