@@ -4,7 +4,7 @@ use borrow.Author.Rules.{rules}
 use Rattle.answers.proofs.finished_values.Goals as goal
 
 pub returns-in-Done : goal.returns-in-Done
-returns-in-Done c = λ b. rw c.enum_told-1.given.1 (none_spoken b c.refused.ensures)
+returns-in-Done c = λ b. rw c.in-Done.is (none_spoken b c.refused.ensures)
 
 pub returns-in-Refused : goal.returns-in-Refused
-returns-in-Refused c = λ b. rw c.f-1.given.1 (refused_spoken c.f-1.given.0.0 _ b c.number.ensures c.refused-in-Refused.ensures)
+returns-in-Refused c = λ b. rw c.in-Refused.is (refused_spoken c.in-Refused.r _ b c.number.ensures c.refused-in-Refused.ensures)

@@ -72,8 +72,7 @@ read-requires t c = let r = region_first c.args.p.now c.args.f.domains c.loop-e.
 
 pub page-u-requires : goal.page-u-requires
 page-u-requires t c = let d = c.if-level-le1.false in
-    let z = c.requires in
-    (omega arith, (z.1.0, region_first c.args.p.now c.args.f.domains c.loop-e.at c.read-count.result c.loop-e.e c.loop-e.invariant.1 c.loop-e-test.true))
+    (omega arith, (c.requires.0, region_first c.args.p.now c.args.f.domains c.loop-e.at c.read-count.result c.loop-e.e c.loop-e.invariant.1 c.loop-e-test.true))
 
 pub overflow_mul-at-in-loop-e : goal.overflow_mul-at-in-loop-e
 overflow_mul-at-in-loop-e t c = let r = region_first c.args.p.now c.args.f.domains c.loop-e.at c.read-count.result c.loop-e.e c.loop-e.invariant.1 c.loop-e-test.true in

@@ -4,13 +4,13 @@ use borrow.Author.Rules.{rules}
 use Rattle.export.proofs.korytanka_find.Goals as goal
 
 pub overflow_cast-result : goal.overflow_cast-result
-overflow_cast-result c = (promise_fits (rw c.location-1.given.1 at c.find.ensures) c.type_inv.pool).0
+overflow_cast-result c = (promise_fits (rw c.in-At.is at c.find.ensures) c.type_inv.pool).0
 
 pub overflow_cast-result-in-At : goal.overflow_cast-result-in-At
-overflow_cast-result-in-At c = (promise_fits (rw c.location-1.given.1 at c.find.ensures) c.type_inv.pool).1.0
+overflow_cast-result-in-At c = (promise_fits (rw c.in-At.is at c.find.ensures) c.type_inv.pool).1.0
 
 pub returns-in-At : goal.returns-in-At
-returns-in-At c = rw c.location-1.given.1 at c.find.ensures
+returns-in-At c = rw c.in-At.is at c.find.ensures
 
 pub returns-in-Refused : goal.returns-in-Refused
-returns-in-Refused c = refused_two c.r-1.given.0.0 c.number.ensures c.not_found.ensures (rw c.r-1.given.1 at c.find.ensures)
+returns-in-Refused c = refused_two c.in-Refused.r c.number.ensures c.not_found.ensures (rw c.in-Refused.is at c.find.ensures)

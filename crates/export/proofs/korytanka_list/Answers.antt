@@ -4,13 +4,13 @@ use borrow.Author.Rules.{rules}
 use Rattle.export.proofs.korytanka_list.Goals as goal
 
 pub overflow_cast-result : goal.overflow_cast-result
-overflow_cast-result c = (promise_fits (rw c.total-1.given.1 at c.list.ensures) c.type_inv.pool).0
+overflow_cast-result c = (promise_fits (rw c.in-Counted.is at c.list.ensures) c.type_inv.pool).0
 
 pub overflow_cast-result-in-Counted : goal.overflow_cast-result-in-Counted
-overflow_cast-result-in-Counted c = (promise_fits (rw c.total-1.given.1 at c.list.ensures) c.type_inv.pool).1.0
+overflow_cast-result-in-Counted c = (promise_fits (rw c.in-Counted.is at c.list.ensures) c.type_inv.pool).1.0
 
 pub returns-in-Counted : goal.returns-in-Counted
-returns-in-Counted c = rw c.total-1.given.1 at c.list.ensures
+returns-in-Counted c = rw c.in-Counted.is at c.list.ensures
 
 pub returns-in-Refused : goal.returns-in-Refused
-returns-in-Refused c = refused_two c.r-1.given.0.0 c.number.ensures c.not_listed.ensures (rw c.r-1.given.1 at c.list.ensures)
+returns-in-Refused c = refused_two c.in-Refused.r c.number.ensures c.not_listed.ensures (rw c.in-Refused.is at c.list.ensures)

@@ -4,10 +4,10 @@ use borrow.Author.Rules.{rules}
 use Rattle.export.proofs.korytanka_remove.Goals as goal
 
 pub overflow_cast-result : goal.overflow_cast-result
-overflow_cast-result c = (promise_fits (rw c.location-1.given.1 at c.remove.ensures) c.before.before.before.before.before.before.before.before.slice-known.given).0
+overflow_cast-result c = (promise_fits (rw c.in-At.is at c.remove.ensures) c.type_inv.pool).0
 
 pub returns-in-At : goal.returns-in-At
-returns-in-At c = rw c.location-1.given.1 at c.remove.ensures
+returns-in-At c = rw c.in-At.is at c.remove.ensures
 
 pub returns-in-Refused : goal.returns-in-Refused
-returns-in-Refused c = refused_one c.r-1.given.0.0 c.number.ensures c.not_removed.ensures (rw c.r-1.given.1 at c.remove.ensures)
+returns-in-Refused c = refused_one c.in-Refused.r c.number.ensures c.not_removed.ensures (rw c.in-Refused.is at c.remove.ensures)

@@ -6,7 +6,7 @@ use borrow.Author.Rules.{rules}
 use Rattle.export.proofs.told.Goals as goal
 
 pub returns-in-Done : goal.returns-in-Done
-returns-in-Done c = λ b. ap (λ f. finished_as f b) (sym c.enum_told-1.given.1)
+returns-in-Done c = λ b. ap (λ f. finished_as f b) (sym c.in-Done.is)
 
 pub returns-in-Refused : goal.returns-in-Refused
-returns-in-Refused c = λ b. told_refused c.f-1.given.0.0 c.number.ensures b ∙ ap (λ f. finished_as f b) (sym c.f-1.given.1)
+returns-in-Refused c = λ b. told_refused c.in-Refused.r c.number.ensures b ∙ ap (λ f. finished_as f b) (sym c.in-Refused.is)

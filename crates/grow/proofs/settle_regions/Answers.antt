@@ -17,7 +17,7 @@ slice_bounds-break_regions-end c = sym (length-take-le _ _ (omega (arith, c.copy
 pub break_regions-requires : goal.break_regions-requires
 break_regions-requires c = let a = c.args in
     let h = c.if-m-most-2.true ∙ c.regions_per-most.ensures in
-    search (rules, few_regions a.m a.f.domains h (omega arith), over_regions a.m a.f.domains h, slice-aggregate-break-regions c)
+    search (rules, few_regions a.m a.f.domains h (omega arith), over_regions a.m a.f.domains h, sym (length-take-le (33 + 2 * a.f.domains) c.copy_overfull.new.over (omega (arith, c.copy_overfull.auto.over))))
 
 pub returns-then-m-most-2 : goal.returns-then-m-most-2
 returns-then-m-most-2 c = let a = c.args in

@@ -7,13 +7,13 @@ use borrow.Author.Rules.{rules}
 use Rattle.index.proofs.is_there.Goals as goal
 
 pub returns-in-Here : goal.returns-in-Here
-returns-in-Here c = ap is_here (sym c.enum_told-1.given.1) ∙ sym (present_of _ (find_walk L c.args.pool.now c.args.point.now).end _ c.search.ensures)
+returns-in-Here c = ap is_here (sym c.in-Here.is) ∙ sym (present_of _ (find_walk L c.args.pool.now c.args.point.now).end _ c.search.ensures)
 
 pub returns-in-Absent : goal.returns-in-Absent
-returns-in-Absent c = ap is_here (sym c.enum_told-in-Absent-1.given.1) ∙ sym (present_of _ (find_walk L c.args.pool.now c.args.point.now).end _ c.search.ensures)
+returns-in-Absent c = ap is_here (sym c.in-Absent.is) ∙ sym (present_of _ (find_walk L c.args.pool.now c.args.point.now).end _ c.search.ensures)
 
 pub returns-in-Bad : goal.returns-in-Bad
-returns-in-Bad c = ap is_here (sym c.enum_told-in-Bad-1.given.1) ∙ sym (present_of _ (find_walk L c.args.pool.now c.args.point.now).end _ c.search.ensures)
+returns-in-Bad c = ap is_here (sym c.in-Bad.is) ∙ sym (present_of _ (find_walk L c.args.pool.now c.args.point.now).end _ c.search.ensures)
 
 pub returns-in-NoRoot : goal.returns-in-NoRoot
-returns-in-NoRoot c = ap is_here (sym c.enum_told-in-NoRoot-1.given.1) ∙ sym (present_of _ (find_walk L c.args.pool.now c.args.point.now).end _ c.search.ensures)
+returns-in-NoRoot c = ap is_here (sym c.in-NoRoot.is) ∙ sym (present_of _ (find_walk L c.args.pool.now c.args.point.now).end _ c.search.ensures)

@@ -23,16 +23,16 @@ pub overflow_add-a-2 : goal.overflow_add-a-2
 overflow_add-a-2 c = omega (arith, far c.args.slot (c.args.f.domains + 1) (omega arith) (omega arith))
 
 pub move_down-requires : goal.move_down-requires
-move_down-requires c = omega (arith, add-less c.before.before, add-less-2 c.before.before, c.less-n.ensures)
+move_down-requires c = omega (arith, far c.word-m.result (c.args.f.domains + 1) (omega arith) (omega arith), far c.args.slot (c.args.f.domains + 1) (omega arith) (omega arith), c.less-n.ensures)
 
 pub overflow_add-a-3 : goal.overflow_add-a-3
-overflow_add-a-3 c = omega (arith, add-less c.before.before.before.before.before.before, add-less-2 c.before.before.before.before.before.before, c.less-n.ensures)
+overflow_add-a-3 c = omega (arith, far c.word-m.result (c.args.f.domains + 1) (omega arith) (omega arith), far c.args.slot (c.args.f.domains + 1) (omega arith) (omega arith), c.less-n.ensures)
 
 pub overflow_add-a-4 : goal.overflow_add-a-4
-overflow_add-a-4 c = omega (arith, add-less c.before.before.before.before.before.before, add-less-2 c.before.before.before.before.before.before, c.less-n.ensures)
+overflow_add-a-4 c = omega (arith, far c.word-m.result (c.args.f.domains + 1) (omega arith) (omega arith), far c.args.slot (c.args.f.domains + 1) (omega arith) (omega arith), c.less-n.ensures)
 
 pub overflow_add-a-5 : goal.overflow_add-a-5
-overflow_add-a-5 c = omega (arith, add-less c.before.before.before.before.before.before, add-less-2 c.before.before.before.before.before.before, c.less-n.ensures)
+overflow_add-a-5 c = omega (arith, far c.word-m.result (c.args.f.domains + 1) (omega arith) (omega arith), far c.args.slot (c.args.f.domains + 1) (omega arith) (omega arith), c.less-n.ensures)
 
 pub shape_of-pool : goal.shape_of-pool
 shape_of-pool c = c.put-2.auto.x ∙ c.put.auto.x ∙ c.clear.auto.x ∙ c.move_down.auto.pool

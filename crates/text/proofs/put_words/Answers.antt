@@ -11,7 +11,7 @@ pub loop-i-init : goal.loop-i-init
 loop-i-init c = worded_none (hex 8) _ _ _
 
 pub overflow_cast-words : goal.overflow_cast-words
-overflow_cast-words c = omega (arith, c.shared_slice_known-in-loop-i-1.given c.loop-i.i)
+overflow_cast-words c = omega (arith, c.type_inv.words c.loop-i.i)
 
 pub loop-i-preserved : goal.loop-i-preserved
 loop-i-preserved c = worded_next (hex 8) (length_hex 8) c.loop-i.invariant c.loop-i-test.true c.put_hex-next.ensures
