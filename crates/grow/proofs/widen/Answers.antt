@@ -16,7 +16,7 @@ pub slice_bounds-settle_regions-end : goal.slice_bounds-settle_regions-end
 slice_bounds-settle_regions-end c = sym (length-take-le _ _ (omega (arith, c.half-len.ensures.1, c.half-len.auto.to, c.requires.0.few)))
 
 pub settle_regions-requires : goal.settle_regions-requires
-settle_regions-requires c = search (rules, sym (length-take-le _ c.half-len.new.to (omega (arith, c.half-len.ensures.1, c.half-len.auto.to, c.requires.0.few))))
+settle_regions-requires c = search (rules, length-take-le c.half-len.result c.half-len.new.to (omega (arith, c.half-len.ensures.1, c.half-len.auto.to, c.requires.0.few)))
 
 pub returns : goal.returns
 returns c = let a = c.args in
