@@ -5,7 +5,7 @@ ghost use Rattle.std.specs.Prelude.{true, ◌≡◌, ◌≤◌, length};
 ghost use Rattle.frames.specs.State.{store_of, kept};
 
 use frames::Held;
-use libc::{STDIN_FILENO, STDOUT_FILENO};
+use std::io::{Read, Write};
 
 // What is kept between two reads, and whether the output still takes bytes.
 #[derive(Drop)]
@@ -16,13 +16,14 @@ struct Passed {
 }
 
 // Feeds every byte that was read, once and in order, and writes each part of the output; it stops where the output takes no more.
-fn pass(
+fn pass<W: Write>(
     piece: &[u8],
     from: Held,
     line: &mut [u8; 128],
     pool: &mut [u32; 16384],
     work: &mut [u32; 16384],
     out: &mut [u8],
+    output: &mut W,
 ) -> Passed
     requires { (length out.old ≡ 65536) × (from.words ≤ 16384) }
     ensures { (result.words ≤ 16384)
@@ -47,7 +48,7 @@ fn pass(
         words = t.words;
         digits = t.digits;
         let written = t.written;
-        if !io::write_all(STDOUT_FILENO, &out[..written]) {
+        if output.write_all(&out[..written]).is_err() {
             return Passed {
                 words: words,
                 digits: digits,
@@ -64,21 +65,25 @@ fn pass(
 }
 
 // Reads to the end of the input, or until the output takes no more.
-fn run(pool: &mut [u32; 16384], work: &mut [u32; 16384]) {
+fn run<R: Read, W: Write>(
+    input: &mut R,
+    output: &mut W,
+    pool: &mut [u32; 16384],
+    work: &mut [u32; 16384],
+) {
     let mut line = [0u8; 128];
-    let mut input = [0u8; 65536];
+    let mut bytes = [0u8; 65536];
     let mut out = [0u8; 65536];
     let mut words: usize = 0;
     let mut digits: usize = 0;
     let mut turns = u64::MAX;
     while turns > 0 {
-        let got = libc::read(STDIN_FILENO, &mut input);
-        if got <= 0 {
+        let n = input.read(&mut bytes).unwrap_or(0);
+        if n == 0 {
             break;
         }
-        let n = io::count(got, &input);
         let p = pass(
-            &input[..n],
+            &bytes[..n],
             Held {
                 words: words,
                 digits: digits,
@@ -87,6 +92,7 @@ fn run(pool: &mut [u32; 16384], work: &mut [u32; 16384]) {
             pool,
             work,
             &mut out,
+            output,
         );
         if !p.open {
             return;
@@ -106,11 +112,11 @@ fn run(pool: &mut [u32; 16384], work: &mut [u32; 16384]) {
         &mut out,
     );
     let written = last.at;
-    io::write_all(STDOUT_FILENO, &out[..written]);
+    let _last = output.write_all(&out[..written]).is_ok();
 }
 
-fn main() {
+fn main(rt: HostRuntime) {
     let mut pool = [0u32; 16384];
     let mut work = [0u32; 16384];
-    run(&mut pool, &mut work);
+    run(&mut rt.stdin(), &mut rt.stdout(), &mut pool, &mut work);
 }

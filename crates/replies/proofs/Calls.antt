@@ -76,7 +76,7 @@ pub list_replied : (f : Listed) (words : ℕ) (pool v full slots : List ℕ) (sh
     → Spoken (listed_as f (answering full (take words pool))) number count first second → length full ≡ 64 → shown ≡ min first 64 → words ≤ length pool
     → Written out at (text_of number (values_of count first second) (take shown full)) out' at' → at' ≤ at + 531 → words ≤ 16384
     → Replied (answered (outcome (take words pool) (list v slots))) pool out at pool out' words at'
-list_replied f words pool v full slots shown {number} {count} {first} q s l m fits t r h =
+list_replied f words pool v full _ shown {number} {count} {first} q s l m fits t r h =
     let w = take words pool in
     let old = sym (ap (λ (b : Buffers). b.pool) (listed_after f (answering full w))) in
     let some : take first full ≡ take shown full = take_least first full ∙ ap (λ n. take n full) (ap (min first) l ∙ sym m) in

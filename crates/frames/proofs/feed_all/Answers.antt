@@ -8,14 +8,13 @@ use borrow.Author.Rules.{rules}
 use native.Mathlib.Omega.{arith}
 use Rattle.frames.proofs.feed_all.Goals as goal
 
-}
 
 pub loop-i-init : goal.loop-i-init
 loop-i-init c = let a = c.args in
     record { fed = feeding_none (store_of a.from.words a.from.digits a.line.now a.pool.now a.work.now) a.piece.now a.out.now; line_long = c.requires.1; sized = c.requires.0; out_long = refl }
 
 pub overflow_add-at : goal.overflow_add-at
-overflow_add-at c = omega (arith, c.loop-i.invariant.fed.fits, c.before.before.before.before.before.before.before.well-formed)
+overflow_add-at c = omega (arith, c.loop-i.invariant.fed.fits, c.well_formed)
 
 pub shape_of-line-then-out-at : goal.shape_of-line-then-out-at
 shape_of-line-then-out-at c = c.loop-i.invariant.line_long ∙ sym c.requires.1
@@ -41,6 +40,7 @@ loop-i-preserved c = record {
   line_long = c.step-s.auto.line ∙ c.loop-i.invariant.line_long;
   sized = record { pool_long = c.step-s.auto.pool ∙ c.loop-i.invariant.sized.pool_long; work_long = c.step-s.auto.work ∙ c.loop-i.invariant.sized.work_long; within = c.step-s.ensures.within; room = omega arith };
   out_long = c.step-s.auto.out ∙ c.loop-i.invariant.out_long;
+}
 
 pub shape_of-line : goal.shape_of-line
 shape_of-line c = c.loop-i.invariant.line_long ∙ sym c.requires.1

@@ -16,22 +16,22 @@ returns-then-bytes-eq0 c = let a = c.args in
 
 pub returns-in-0 : goal.returns-in-0
 returns-in-0 c = let a = c.args in
-    (rw (frame_first c.args.bytes.now 0 c.if-bytes-eq0.false c.in-0.keys1) c.new_frame.ensures, unplaced (take a.words a.pool.now) a.work.now a.bytes.now (λ e. omega (arith, c.in-0.keys1)))
+    (rw (frame_first c.args.bytes.now 0 c.if-bytes-eq0.false c.in-0.is) c.new_frame.ensures, unplaced (take a.words a.pool.now) a.work.now a.bytes.now (λ e. omega (arith, c.in-0.is)))
 
 pub returns-in-1 : goal.returns-in-1
-returns-in-1 c = rw (frame_words c.args.bytes.now _ 1 c.words_of-n.result place_of c.if-bytes-eq0.false c.in-1.keys2 c.words_of-n.ensures.0 (λ bs. refl)) c.place_frame-next.ensures
+returns-in-1 c = rw (frame_words c.args.bytes.now _ 1 c.words_of-n.result place_of c.if-bytes-eq0.false c.in-1.is c.words_of-n.ensures.0 (λ bs. refl)) c.place_frame-next.ensures
 
 pub returns-in-2 : goal.returns-in-2
 returns-in-2 c = let a = c.args in
-    (rw (frame_words c.args.bytes.now _ 2 c.words_of-n.result remove_of c.if-bytes-eq0.false c.in-2.keys3 c.words_of-n.ensures.0 (λ bs. refl)) c.remove_frame-next.ensures, unplaced (take a.words a.pool.now) a.work.now a.bytes.now (λ e. omega (arith, c.in-2.keys3)))
+    (rw (frame_words c.args.bytes.now _ 2 c.words_of-n.result remove_of c.if-bytes-eq0.false c.in-2.is c.words_of-n.ensures.0 (λ bs. refl)) c.remove_frame-next.ensures, unplaced (take a.words a.pool.now) a.work.now a.bytes.now (λ e. omega (arith, c.in-2.is)))
 
 pub returns-in-3 : goal.returns-in-3
 returns-in-3 c = let a = c.args in
-    (rw (frame_words c.args.bytes.now _ 3 c.words_of-n.result find_of c.if-bytes-eq0.false c.in-3.keys4 c.words_of-n.ensures.0 (λ bs. refl)) c.find_frame-next.ensures, unplaced (take a.words a.pool.now) a.work.now a.bytes.now (λ e. omega (arith, c.in-3.keys4)))
+    (rw (frame_words c.args.bytes.now _ 3 c.words_of-n.result find_of c.if-bytes-eq0.false c.in-3.is c.words_of-n.ensures.0 (λ bs. refl)) c.find_frame-next.ensures, unplaced (take a.words a.pool.now) a.work.now a.bytes.now (λ e. omega (arith, c.in-3.is)))
 
 pub returns-in-4 : goal.returns-in-4
 returns-in-4 c = let a = c.args in
-    (rw (frame_words c.args.bytes.now _ 4 c.words_of-n.result list_of c.if-bytes-eq0.false c.in-4.keys5 c.words_of-n.ensures.0 (λ bs. refl)) c.list_frame-next.ensures, unplaced (take a.words a.pool.now) a.work.now a.bytes.now (λ e. omega (arith, c.in-4.keys5)))
+    (rw (frame_words c.args.bytes.now _ 4 c.words_of-n.result list_of c.if-bytes-eq0.false c.in-4.is c.words_of-n.ensures.0 (λ bs. refl)) c.list_frame-next.ensures, unplaced (take a.words a.pool.now) a.work.now a.bytes.now (λ e. omega (arith, c.in-4.is)))
 
 pub returns-in-5-to-255 : goal.returns-in-5-to-255
 returns-in-5-to-255 c = let a = c.args in
