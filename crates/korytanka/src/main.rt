@@ -23,7 +23,7 @@ fn pass<W: Write>(
     pool: &mut [u32; 16384],
     work: &mut [u32; 16384],
     out: &mut [u8],
-    output: &mut W,
+    writer: &mut W,
 ) -> Passed
     requires { (length out.old ≡ 65536) × (from.words ≤ 16384) }
     ensures { (result.words ≤ 16384)
@@ -48,7 +48,7 @@ fn pass<W: Write>(
         words = t.words;
         digits = t.digits;
         let written = t.written;
-        if output.write_all(&out[..written]).is_err() {
+        if writer.write_all(&out[..written]).is_err() {
             return Passed {
                 words: words,
                 digits: digits,
@@ -66,24 +66,24 @@ fn pass<W: Write>(
 
 // Reads to the end of the input, or until the output takes no more.
 fn run<R: Read, W: Write>(
-    input: &mut R,
-    output: &mut W,
+    reader: &mut R,
+    writer: &mut W,
     pool: &mut [u32; 16384],
     work: &mut [u32; 16384],
 ) {
     let mut line = [0u8; 128];
-    let mut bytes = [0u8; 65536];
+    let mut input = [0u8; 65536];
     let mut out = [0u8; 65536];
     let mut words: usize = 0;
     let mut digits: usize = 0;
     let mut turns = u64::MAX;
     while turns > 0 {
-        let n = input.read(&mut bytes).unwrap_or(0);
+        let n = reader.read(&mut input).unwrap_or(0);
         if n == 0 {
             break;
         }
         let p = pass(
-            &bytes[..n],
+            &input[..n],
             Held {
                 words: words,
                 digits: digits,
@@ -92,7 +92,7 @@ fn run<R: Read, W: Write>(
             pool,
             work,
             &mut out,
-            output,
+            writer,
         );
         if !p.open {
             return;
@@ -112,7 +112,7 @@ fn run<R: Read, W: Write>(
         &mut out,
     );
     let written = last.at;
-    let _last = output.write_all(&out[..written]).is_ok();
+    let _last = writer.write_all(&out[..written]).is_ok();
 }
 
 fn main(rt: HostRuntime) {

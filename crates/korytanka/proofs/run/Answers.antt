@@ -8,4 +8,4 @@ use native.Mathlib.Omega.{arith}
 use Rattle.korytanka.proofs.run.Goals as goal
 
 pub slice_bounds-write_all-end : goal.slice_bounds-write_all-end
-slice_bounds-write_all-end c = sym (length-take-le _ _ (omega (arith, c.finish-last.ensures.0.room, c.finish-last.auto.out, c.loop-turns.invariant)))
+slice_bounds-write_all-end g c = sym (length-take-le _ _ (omega (arith, c.finish-last.ensures.0.room, c.finish-last.auto.out, c.loop-turns.invariant)))

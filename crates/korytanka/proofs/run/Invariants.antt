@@ -8,7 +8,7 @@ use native.Mathlib.Omega.{arith}
 use Rattle.korytanka.proofs.run.Given as goal
 
 abbrev pub invariant-loop-turns : goal.invariant-loop-turns
-invariant-loop-turns l = (length l.input ≡ 65536) × ((length l.out ≡ 65536) × (l.words ≤ 16384))
+invariant-loop-turns g l = (length l.input ≡ 65536) × ((length l.out ≡ 65536) × (l.words ≤ 16384))
 
 abbrev pub decreases-loop-turns : goal.decreases-loop-turns
-decreases-loop-turns l = l.turns
+decreases-loop-turns g l = l.turns
