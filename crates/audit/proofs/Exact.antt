@@ -9,10 +9,9 @@ use native.Mathlib.Omega.{arith}
 use lib.Dec.{T, leb, ltb, eqb, leb→le, le→leb, ltb→lt, lt→ltb, eqb→eq, T_not}
 use lib.ListN.{length, get_or, length-map, get_or-replicate, get_or-eq_default}
 use borrow.Author.Tests.{eq-eqb, ne_eqb, ltb-true, ltb-false, eqb-true, eqb-false}
-use Rattle.kdb.specs.Lists.{bit, every, Each, gather, many, sum}
+use Rattle.kdb.specs.Lists.{bit, every, Each, gather, many}
 use Rattle.kdb.specs.Box.{∞, Box, whole, within, solid}
 use Rattle.kdb.specs.Tiling.{Apart, Together}
-use Rattle.kdb.specs.Tree.{levels}
 use Rattle.kdb.specs.Pages.{Ent, Page, blank, points, regions, regions_per, points_per, domain, recs_in, ents_in, boxes_in, is_points, is_regions, in_use, print_page, read_page, page}
 use Rattle.kdb.specs.Shape.{differ, Shaped, ShapedF}
 use Rattle.kdb.specs.Pool.{domains, root_at, levels_at, count_at, pages_in, good_length, good_header, view, reached_from, reached, Paths, Sound}

@@ -11,7 +11,6 @@ use lib.ListN.{length, take, drop, get_or, set, replicate, length-take, length-d
 use lib.Seq.{sets, drop-cons, get_or-take, get_or-drop, take_all, set-get_or, get_or-set_other}
 use borrow.Author.Tests.{le-leb, lt-leb, eq-eqb, ne_eqb}
 use Rattle.kdb.specs.Calls.{L}
-use Rattle.kdb.specs.Pages.{page}
 use Rattle.words.specs.Words.{lowest, word}
 use Rattle.kdb.proofs.Stores.{take_set, take_sets}
 use Rattle.steps.specs.Machine.{Claimed, fresh_in, append_in}

@@ -2,16 +2,16 @@
 -- accepted format in particular. Demand 3: what a walk reads.
 use mathlib.Core.List.{List, [], ◌∷◌, ◌++◌, map}
 use mathlib.Core.Path.{◌≡◌, refl, sym, ap, ◌∙◌, subst}
-use Prim.Native.Nat.{ℕ, zero, suc, ◌+◌, ◌-◌, ◌≤◌}
+use Prim.Native.Nat.{ℕ, zero, suc, ◌-◌, ◌≤◌}
 use native.Mathlib.Omega.{arith}
 use lib.Dec.{T, eqb, eqb→eq}
 use lib.ListN.{length, take, get_or}
 use mathlib.Core.Logic.{◌↔◌}
-use Rattle.kdb.specs.Lists.{tally, same, many}
+use Rattle.kdb.specs.Lists.{tally, many}
 use Rattle.kdb.specs.Box.{Key}
 use Rattle.kdb.specs.Tree.{Rec, records_of}
 use Rattle.kdb.specs.Pool.{domains, levels_at, pages_in, good_length, good_header, Sound, own_region}
-use Rattle.kdb.specs.Print.{state_of, sound}
+use Rattle.kdb.specs.Print.{state_of}
 use Rattle.kdb.specs.Walk.{bad, Search, find_walk, list_walk}
 use Rattle.kdb.specs.Bad.{up_to_bad, find_trail, list_trail}
 use Rattle.kdb.specs.Calls.{L, Call, format, find, list, Outcome, finite, lent, finding, outcome, window_of, walk_of, begins, Promise}

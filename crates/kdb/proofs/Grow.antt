@@ -17,7 +17,7 @@ use Rattle.kdb.specs.Cut.{Cut, nowhere, cut, cut_points, cut_regions}
 use Rattle.kdb.specs.Tiling.{Tiles, holders}
 use Rattle.kdb.specs.Pages.{regions_per, points_per}
 use Rattle.kdb.specs.Shape.{differ, RegionPage, Shaped, ShapedF, ShapedS, Numbered, WellFormed}
-use Rattle.kdb.specs.Steps.{free_of, after_chosen, split, Up, failed, fits, parts, UpF, failed_f, kept, wider, size, join_f, parted, enter, behind, chosen, settle_node, grow, grow_f, new_root, topped, first, placed}
+use Rattle.kdb.specs.Steps.{free_of, after_chosen, Up, failed, fits, parts, UpF, failed_f, kept, wider, size, join_f, parted, enter, behind, chosen, settle_node, grow, grow_f, new_root, topped, first, placed}
 use Rattle.kdb.proofs.Tests.{and_l, and_r, and_i, bool, by-case, is_true, is_false, to_bit, no_bit}
 use Rattle.kdb.proofs.Lists.{every_append, same_eq, same_refl}
 use Rattle.kdb.proofs.Counts.{tally_append, In, in_head, in_tail, every_in, tally_only, tally-take, many_only, up_from_in, up_from_once}

@@ -3,7 +3,7 @@
 use mathlib.Core.Bool.{Bool, true, false, ◌&&◌, not, cond}
 use mathlib.Core.List.{List, [], ◌∷◌, ◌++◌}
 use mathlib.Core.Path.{◌≡◌, refl, sym, ap, ap₂, ◌∙◌, subst}
-use Prim.Native.Nat.{ℕ, zero, suc, ◌+◌, ◌-◌, ◌/◌, ◌%◌, ◌≤◌}
+use Prim.Native.Nat.{ℕ, zero, suc, ◌-◌, ◌/◌, ◌%◌, ◌≤◌}
 use native.Mathlib.Omega.{arith}
 use lib.Dec.{T, leb, ltb, eqb, leb→le, nleb→lt, ltb→lt, nltb→le}
 use lib.ListN.{length, take, drop, length-take, length-append}
@@ -14,7 +14,7 @@ use Rattle.kdb.specs.Box.{Box, Key, within, meets, in_window}
 use Rattle.kdb.specs.Header.{read_header}
 use Rattle.kdb.specs.Pages.{Ent, Page, blank, recs_in, ents_in, is_points, is_regions, points_per, regions_per, read_page, page}
 use Rattle.kdb.specs.Pool.{domains, root_at, levels_at, pages_in, view, good_length, good_words, good_header, is_page}
-use Rattle.kdb.specs.Walk.{spots, Tour, still, astray, bad_at, read_at, follow, through, good_points, good_regions, tour, bounded, list_walk, rootless, bad, here, Search, ends, after, spot_of, into, seek, find_walk}
+use Rattle.kdb.specs.Walk.{spots, Tour, still, astray, bad_at, read_at, follow, through, good_points, good_regions, tour, bounded, list_walk, rootless, bad, Search, ends, after, spot_of, into, seek, find_walk}
 use Rattle.kdb.specs.Calls.{L, Call, Buffers, Outcome, Test, unless, judge, all_hold, tests, core, lent, outcome, begins, Route, no_walk, to_point, over_window, row, read_on, walk_of}
 use Rattle.kdb.specs.Demands.{Agree, Told, walks, Local}
 use Rattle.kdb.proofs.Length.{big}

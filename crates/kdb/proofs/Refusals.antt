@@ -4,7 +4,7 @@ use mathlib.Core.Bool.{Bool, true, false, ◌&&◌, not, cond}
 use mathlib.Core.List.{List, [], ◌∷◌, ◌++◌, map}
 use mathlib.Core.Option.{Option, none, some}
 use mathlib.Core.Path.{◌≡◌, refl, sym, ap, ◌∙◌, subst}
-use Prim.Native.Nat.{ℕ, zero, suc, ◌-◌, ◌≤◌, ◌<◌}
+use Prim.Native.Nat.{ℕ, zero, suc, ◌≤◌, ◌<◌}
 use native.Mathlib.Omega.{arith}
 use lib.Dec.{T, leb, ltb, eqb, leb→le, le→leb, eqb→eq, ltb→lt}
 use lib.ListN.{length, take, replicate, length-append}
@@ -16,7 +16,7 @@ use Rattle.kdb.specs.Steps.{free_of}
 use Rattle.kdb.specs.Pages.{regions_per, points_per, recs_in}
 use Rattle.kdb.specs.Pool.{domains, pages_in, good_length, good_header, view, Sound}
 use Rattle.kdb.specs.Print.{state_of, sound}
-use Rattle.kdb.specs.Walk.{Spot, Tour, End, rootless, bad, absent, here, ends, find_walk, list_walk}
+use Rattle.kdb.specs.Walk.{Spot, Tour, End, rootless, bad, absent, here, find_walk, list_walk}
 use Rattle.kdb.specs.declared.Refusal.TheVariants.{PoolLength, Domains, BufferLength, InfiniteKey, WindowOrder, Unsound, Present}
 use Rattle.kdb.specs.Calls.{L, Call, format, check, place, remove, find, list, Outcome, Buffers, Test, good_domains, finite, ordered, window_of, present, placing, removing, finding, listing, stepped, outcome, begins, walk_of, unless, judge, ◌or◌, lent, tests, core, all_hold, head_tests, number_of, row}
 use Rattle.kdb.specs.History.{emptied, makes}

@@ -13,7 +13,7 @@ use Rattle.kdb.specs.Tree.{Rec, Tree, leaf, node, Forest, fnil, fcons, State, bo
 use Rattle.kdb.specs.Tiling.{holders}
 use Rattle.kdb.specs.Pages.{regions_per, points_per}
 use Rattle.kdb.specs.Shape.{differ, RegionPage, Shaped, ShapedF, Numbered, WellFormed}
-use Rattle.kdb.specs.Steps.{size, without, remove, remove_f, removed}
+use Rattle.kdb.specs.Steps.{without, remove, remove_f, removed}
 use Rattle.kdb.proofs.Tests.{and_l, and_r, and_i, bool, by-case, to_bit, no_bit, bit_eq, bit_most}
 use Rattle.kdb.proofs.Lists.{same_eq, same_refl}
 use Rattle.kdb.proofs.Counts.{found, tally_append, In, every_in, tally-parts}

@@ -1,7 +1,7 @@
 -- Laws of tests: what a test that holds says, and proofs by cases on one.
 use mathlib.Core.Bool.{Bool, true, false, ◌&&◌, ◌||◌, not, cond}
 use mathlib.Core.Path.{◌≡◌, refl, ap, subst}
-use Prim.Native.Nat.{ℕ, zero, suc, ◌+◌, ◌-◌, ◌≤◌}
+use Prim.Native.Nat.{ℕ, zero, suc, ◌+◌, ◌≤◌}
 use native.Mathlib.Omega.{arith}
 use lib.Dec.{T, eqb, eqb_refl}
 use Rattle.kdb.specs.Lists.{bit}

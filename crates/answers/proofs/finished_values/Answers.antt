@@ -1,6 +1,5 @@
 -- `answers::finished_values` meets its contract: the number and the values of each case of the answer.
 use Rattle.answers.proofs.Answers.{none_spoken, refused_spoken}
-use borrow.Author.Rules.{rules}
 use Rattle.answers.proofs.finished_values.Goals as goal
 
 pub returns-in-Done : goal.returns-in-Done

@@ -1,6 +1,5 @@
 -- `answers::found_values` meets its contract: the number and the values of each case of the answer.
 use Rattle.answers.proofs.Answers.{two_spoken, refused_spoken}
-use borrow.Author.Rules.{rules}
 use Rattle.answers.proofs.found_values.Goals as goal
 
 pub returns-in-At : goal.returns-in-At

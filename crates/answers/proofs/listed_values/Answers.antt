@@ -1,6 +1,5 @@
 -- `answers::listed_values` meets its contract: the number and the values of each case of the answer.
 use Rattle.answers.proofs.Answers.{two_spoken, refused_spoken}
-use borrow.Author.Rules.{rules}
 use Rattle.answers.proofs.listed_values.Goals as goal
 
 pub returns-in-Counted : goal.returns-in-Counted

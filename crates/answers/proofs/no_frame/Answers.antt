@@ -1,6 +1,5 @@
 -- `answers::no_frame` meets its contract: the number 255 alone is FF.
 use Rattle.answers.proofs.Answers.{ff}
-use borrow.Author.Rules.{rules}
 use Rattle.answers.proofs.no_frame.Goals as goal
 
 pub returns : goal.returns

@@ -1,9 +1,7 @@
 -- `answers::put_answer` meets its contract: its parts stand one behind the other.
 use Rattle.answers.proofs.Answers.{answer_parts}
-use borrow.Author.Rules.{rules}
 use native.Mathlib.Omega.{arith}
 use Rattle.answers.proofs.put_answer.Goals as goal
-
 
 pub overflow_add-result : goal.overflow_add-result
 overflow_add-result c = omega (arith, c.put_words-d.ensures.1, c.put_value-c.ensures.1, c.put_value-b.ensures.1, c.put_hex-a.ensures.follows, c.requires)

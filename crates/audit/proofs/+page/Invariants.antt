@@ -1,21 +1,12 @@
 -- `audit::page` meets its contract: page j, that is to have `level` levels and the region at word b of q, and all below it.
 use Prim.Native.Nat.{◌≤◌, ◌-◌, ◌+◌, ◌*◌}
-use mathlib.Core.Path.{◌≡◌, refl, sym, ap, ◌∙◌}
-use native.Mathlib.Nat.{sub-zero}
+use mathlib.Core.Path.{◌≡◌}
 use lib.ListN.{length, drop}
-use borrow.Author.Tests.{not-true, not-false}
 use Rattle.kdb.specs.Calls.{L}
 use Rattle.kdb.specs.Pool.{view}
 use Rattle.kdb.specs.Pages.{ents_in, read_ents}
 use Rattle.audit.specs.Walk.{entry_by_entry, page_walk}
-use Rattle.pages.proofs.OnePage.{entries_of}
-use Rattle.words.specs.Words.{RegionIn}
 use Rattle.cover.specs.Boxes.{Run}
-use Rattle.cover.proofs.Loops.{row_next, row_first, region_first}
-use Rattle.audit.proofs.Turns.{Within, fresh_within, entries_end, entries_next, page_bad, page_leaf, page_spoilt, page_entries}
-use borrow.Author.Rules.{rules}
-use native.Mathlib.Omega.{arith}
-use Prim.Native.Nat.{ℕ, ◌<◌}
 use Rattle.audit.proofs.+page.Given as goal
 
 abbrev pub invariant-loop-e : goal.invariant-loop-e

@@ -2,7 +2,6 @@
 use mathlib.Core.Path.{◌∙◌}
 use Rattle.audit.proofs.Exact.{audit_says}
 use Rattle.audit.proofs.Turns.{audited_bad, audited_rest}
-use borrow.Author.Rules.{rules}
 use Rattle.audit.proofs.audit.Goals as goal
 
 pub walk-s-requires : goal.walk-s-requires

@@ -2,7 +2,6 @@
 use mathlib.Core.Path.{sym, ◌∙◌}
 use Rattle.pages.proofs.OnePage.{zero_page}
 use Rattle.audit.proofs.Turns.{free_met, free_not}
-use borrow.Author.Rules.{rules}
 use Rattle.audit.proofs.free.Goals as goal
 
 pub returns-then-get-ne0 : goal.returns-then-get-ne0

@@ -1,5 +1,4 @@
 -- `audit::fresh` meets its contract: page j may be looked at: no page was bad, and j is the number of a page that was not met.
-use borrow.Author.Rules.{rules}
 use Rattle.audit.proofs.fresh.Goals as goal
 
 pub returns : goal.returns

@@ -1,9 +1,7 @@
 -- `audit::leaf` meets its contract.
 use mathlib.Core.Path.{sym, ◌∙◌}
-use borrow.Author.Tests.{not-true, not-false}
 use Rattle.audit.proofs.Turns.{leaf_bad, leaf_few, leaf_found}
 use Rattle.pages.proofs.OnePage.{points_count}
-use borrow.Author.Rules.{rules}
 use native.Mathlib.Omega.{arith}
 use Rattle.audit.proofs.leaf.Goals as goal
 

@@ -1,15 +1,9 @@
 -- `audit::rest` meets its contract: every page behind the header that was not met is all zero.
 use Prim.Native.Nat.{◌≤◌, ◌-◌}
 use mathlib.Core.Path.{◌≡◌}
-use mathlib.Core.Bool.{true}
 use Rattle.words.specs.Loops.{all_by}
-use Rattle.words.proofs.Loops.{all_end, all_next}
 use Rattle.kdb.specs.Calls.{L}
-use Rattle.words.proofs.Laws.{pages}
 use Rattle.audit.specs.Walk.{cleared_of, rest_of}
-use Rattle.audit.proofs.Turns.{number_loop}
-use borrow.Author.Rules.{rules}
-use native.Mathlib.Omega.{arith}
 use Rattle.audit.proofs.rest.Given as goal
 
 abbrev pub invariant-loop-j : goal.invariant-loop-j

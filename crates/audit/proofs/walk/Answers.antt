@@ -1,7 +1,6 @@
 -- `audit::walk` meets its contract: all that the header's root names.
 use mathlib.Core.Path.{sym, ◌∙◌}
 use Rattle.audit.proofs.Turns.{walk_none, walk_page, whole_words_lem}
-use borrow.Author.Rules.{rules}
 use native.Mathlib.Omega.{arith}
 use Rattle.audit.proofs.walk.Goals as goal
 

@@ -1,15 +1,7 @@
 -- `boxes::in_window` meets its contract: the loop over the domains is `in_window`.
 use Rattle.boxes.proofs.Tests as tests
-use Rattle.boxes.specs.Tests.{seen_at}
-use Rattle.words.specs.Words.{keys_of}
-use Rattle.kdb.specs.Calls.{window_of}
-use Rattle.kdb.specs.Box.{in_window}
 use Rattle.words.proofs.Loops.{all_end, all_next}
-use Rattle.words.specs.Loops.{all_by}
 use native.Mathlib.Nat.{sub-zero}
-use mathlib.Core.Path.{◌≡◌}
-use Prim.Native.Nat.{◌≤◌, ◌-◌}
-use borrow.Author.Rules.{rules}
 use native.Mathlib.Omega.{arith}
 use Rattle.boxes.proofs.in_window.Goals as goal
 

@@ -1,16 +1,11 @@
 -- `boxes::meets_window` meets its contract: the loop over the domains is `meets`.
-use Rattle.boxes.proofs.Tests as tests
 use Rattle.boxes.specs.Tests.{meets_at}
 use Rattle.words.specs.Words.{region_at}
 use Rattle.kdb.specs.Calls.{window_of}
 use Rattle.kdb.specs.Box.{meets}
-use Rattle.words.proofs.Loops.{all_end, all_next}
 use Rattle.words.specs.Loops.{all_by}
-use native.Mathlib.Nat.{sub-zero}
 use mathlib.Core.Path.{◌≡◌}
 use Prim.Native.Nat.{◌≤◌, ◌-◌}
-use borrow.Author.Rules.{rules}
-use native.Mathlib.Omega.{arith}
 use Rattle.boxes.proofs.meets_window.Given as goal
 
 abbrev pub invariant-loop-d : goal.invariant-loop-d

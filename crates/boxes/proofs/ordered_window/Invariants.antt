@@ -1,14 +1,9 @@
 -- `boxes::ordered_window` meets its contract: the loop over the domains is `ordered`.
-use Rattle.boxes.proofs.Tests as tests
 use Rattle.boxes.specs.Tests.{ordered_at}
 use Rattle.kdb.specs.Calls.{window_of, ordered}
-use Rattle.words.proofs.Loops.{all_end, all_next}
 use Rattle.words.specs.Loops.{all_by}
-use native.Mathlib.Nat.{sub-zero}
 use mathlib.Core.Path.{◌≡◌}
 use Prim.Native.Nat.{◌≤◌, ◌-◌}
-use borrow.Author.Rules.{rules}
-use native.Mathlib.Omega.{arith}
 use Rattle.boxes.proofs.ordered_window.Given as goal
 
 abbrev pub invariant-loop-d : goal.invariant-loop-d

@@ -1,14 +1,7 @@
 -- `boxes::point_in` meets its contract: the loop over the domains is `within`.
 use Rattle.boxes.proofs.Tests as tests
-use Rattle.boxes.specs.Tests.{holds_at}
-use Rattle.words.specs.Words.{region_at}
-use Rattle.kdb.specs.Box.{within}
 use Rattle.words.proofs.Loops.{all_end, all_next}
-use Rattle.words.specs.Loops.{all_by}
 use native.Mathlib.Nat.{sub-zero}
-use mathlib.Core.Path.{◌≡◌}
-use Prim.Native.Nat.{◌≤◌, ◌-◌}
-use borrow.Author.Rules.{rules}
 use native.Mathlib.Omega.{arith}
 use Rattle.boxes.proofs.point_in.Goals as goal
 

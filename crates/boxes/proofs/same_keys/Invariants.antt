@@ -1,11 +1,8 @@
 -- `boxes::same_keys` meets its contract: key by key, and out at the first that differs.
-use Rattle.boxes.proofs.Tests.{Alike, same_end, same_stop, same_next}
+use Rattle.boxes.proofs.Tests.{Alike}
 use Rattle.words.specs.Words.{keys_of}
 use Rattle.kdb.specs.Lists.{same}
-use mathlib.Core.Path.{refl, sym, ◌∙◌}
 use Prim.Native.Nat.{◌-◌}
-use borrow.Author.Rules.{rules}
-use native.Mathlib.Omega.{arith}
 use Rattle.boxes.proofs.same_keys.Given as goal
 
 abbrev pub invariant-loop-d : goal.invariant-loop-d

@@ -1,11 +1,7 @@
 -- `cover::clear_of` meets its contract: region by region, and out at the first that shares a key.
-use Prim.Native.Nat.{◌-◌}
 use mathlib.Core.Path.{refl, sym, ◌∙◌}
 use native.Mathlib.Nat.{sub-zero}
-use Rattle.words.specs.Words.{region_at}
-use Rattle.cover.specs.Boxes.{regions_at, clear_of}
-use Rattle.cover.proofs.Loops.{region_first, Clear, clear_end, clear_stop, clear_next}
-use borrow.Author.Rules.{rules}
+use Rattle.cover.proofs.Loops.{region_first, clear_end, clear_stop, clear_next}
 use native.Mathlib.Omega.{arith}
 use Rattle.cover.proofs.clear_of.Goals as goal
 

@@ -1,11 +1,8 @@
 -- `cover::filled` meets its contract: the keys of r that are left after each region; none are left exactly if the regions tile.
-use Prim.Native.Nat.{◌-◌}
 use Rattle.words.specs.Words.{region_at}
 use Rattle.cover.specs.Boxes.{regions_at}
-use Rattle.cover.specs.Volume.{volume_of, volumes_of, value}
 use Rattle.cover.proofs.Loops.{region_first}
-use Rattle.cover.proofs.Regions.{Left, region_some, left_all, left_some, left_most, left_next, left_end, filled_is}
-use borrow.Author.Rules.{rules}
+use Rattle.cover.proofs.Regions.{region_some, left_all, left_some, left_most, left_next, left_end, filled_is}
 use native.Mathlib.Omega.{arith}
 use Rattle.cover.proofs.filled.Goals as goal
 

@@ -1,13 +1,8 @@
 -- `cover::fit` meets its contract: region by region, and out at the first that is not inside or shares a key with a later one.
 use Prim.Native.Nat.{◌-◌}
-use mathlib.Core.Path.{refl, sym, ◌∙◌}
-use native.Mathlib.Nat.{sub-zero}
-use borrow.Author.Tests.{not-true, not-false}
 use Rattle.words.specs.Words.{region_at}
 use Rattle.cover.specs.Boxes.{regions_at, fitted}
-use Rattle.cover.proofs.Loops.{region_first, row_next, Fits, fits_end, fits_out, fits_met, fits_next}
-use borrow.Author.Rules.{rules}
-use native.Mathlib.Omega.{arith}
+use Rattle.cover.proofs.Loops.{Fits}
 use Rattle.cover.proofs.fit.Given as goal
 
 abbrev pub invariant-loop-e : goal.invariant-loop-e

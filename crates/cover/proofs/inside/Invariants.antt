@@ -1,12 +1,8 @@
 -- `cover::inside` meets its contract: side by side, and out at the first that is not inside.
 use Prim.Native.Nat.{◌-◌}
-use mathlib.Core.Path.{refl}
-use borrow.Author.Tests.{not-true, not-false}
 use Rattle.words.specs.Words.{region_at}
 use Rattle.cover.specs.Boxes.{inside_side, inside_of}
-use Rattle.cover.proofs.Loops.{Beside, beside_end, beside_stop, beside_next}
-use borrow.Author.Rules.{rules}
-use native.Mathlib.Omega.{arith}
+use Rattle.cover.proofs.Loops.{Beside}
 use Rattle.cover.proofs.inside.Given as goal
 
 abbrev pub invariant-loop-i : goal.invariant-loop-i

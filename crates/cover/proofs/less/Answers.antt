@@ -1,7 +1,6 @@
 -- `cover::less` meets its contract: word by word, with a carry where the lower words want one.
 use mathlib.Core.Path.{refl}
 use Rattle.cover.proofs.Amounts.{carry_high, carry_value, plain_high, plain_value}
-use borrow.Author.Rules.{rules}
 use native.Mathlib.Omega.{arith}
 use Rattle.cover.proofs.less.Goals as goal
 

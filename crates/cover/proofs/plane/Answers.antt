@@ -2,7 +2,6 @@
 use Prim.Native.Nat.{◌+◌, ◌-◌, ◌<◌, ◌^◌}
 use lib.ListN.{get_or}
 use Rattle.cover.proofs.Amounts.{factors, first_some, one_side, second_some, two_sides}
-use borrow.Author.Rules.{rules}
 use native.Mathlib.Omega.{arith}
 use Rattle.cover.proofs.plane.Goals as goal
 

@@ -1,12 +1,8 @@
 -- `cover::share` meets its contract: side by side, and out at the first that has no common key.
 use Prim.Native.Nat.{◌-◌}
-use mathlib.Core.Path.{refl}
-use borrow.Author.Tests.{not-true, not-false}
 use Rattle.words.specs.Words.{region_at}
 use Rattle.cover.specs.Boxes.{overlap_side, overlap}
-use Rattle.cover.proofs.Loops.{Beside, beside_end, beside_stop, beside_next}
-use borrow.Author.Rules.{rules}
-use native.Mathlib.Omega.{arith}
+use Rattle.cover.proofs.Loops.{Beside}
 use Rattle.cover.proofs.share.Given as goal
 
 abbrev pub invariant-loop-i : goal.invariant-loop-i

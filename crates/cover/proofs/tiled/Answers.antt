@@ -2,9 +2,7 @@
 use mathlib.Core.Path.{sym, ◌∙◌}
 use Rattle.words.specs.Words.{region_at}
 use Rattle.cover.specs.Boxes.{regions_at}
-use borrow.Author.Tests.{not-true, not-false}
 use Rattle.cover.proofs.Tile.{tiles_no}
-use borrow.Author.Rules.{rules}
 use Rattle.cover.proofs.tiled.Goals as goal
 
 pub returns-then-not-fit : goal.returns-then-not-fit

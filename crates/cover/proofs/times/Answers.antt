@@ -2,7 +2,6 @@
 use mathlib.Core.Path.{refl}
 use Prim.Native.Nat.{◌/◌, ◌%◌}
 use Rattle.cover.proofs.Amounts.{factors, times_value}
-use borrow.Author.Rules.{rules}
 use native.Mathlib.Omega.{arith}
 use Rattle.cover.proofs.times.Goals as goal
 

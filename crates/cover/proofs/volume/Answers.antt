@@ -1,9 +1,5 @@
 -- `cover::volume` meets its contract: the product of the sides, which for at most four does not pass two words.
-use Prim.Native.Nat.{◌-◌}
-use Rattle.words.specs.Words.{region_at}
-use Rattle.cover.specs.Volume.{Sides}
 use Rattle.cover.proofs.Amounts.{side_some, side_small, product_next, product_end}
-use borrow.Author.Rules.{rules}
 use native.Mathlib.Omega.{arith}
 use Rattle.cover.proofs.volume.Goals as goal
 

@@ -2,9 +2,6 @@
 use Prim.Native.Nat.{◌-◌}
 use Rattle.words.specs.Words.{region_at}
 use Rattle.cover.specs.Volume.{Sides}
-use Rattle.cover.proofs.Amounts.{side_some, side_small, product_next, product_end}
-use borrow.Author.Rules.{rules}
-use native.Mathlib.Omega.{arith}
 use Rattle.cover.proofs.volume.Given as goal
 
 abbrev pub invariant-loop-i : goal.invariant-loop-i

@@ -2,7 +2,6 @@
 -- there.
 use mathlib.Core.Path.{◌∙◌}
 use Rattle.deal.proofs.Laws.{small, fewer, near, append_room, append_full}
-use borrow.Author.Rules.{rules}
 use native.Mathlib.Omega.{arith}
 use Rattle.deal.proofs.append.Goals as goal
 

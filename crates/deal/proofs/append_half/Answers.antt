@@ -6,7 +6,6 @@ use mathlib.Core.Path.{sym, ap, ap₂, ◌∙◌}
 use Rattle.steps.specs.Machine.{append_in}
 use lib.ListN.{take, replicate}
 use Rattle.deal.proofs.Laws.{half_words}
-use borrow.Author.Rules.{rules}
 use native.Mathlib.Omega.{arith}
 use Rattle.deal.proofs.append_half.Goals as goal
 

@@ -1,7 +1,6 @@
 -- `deal::claim` meets its contract: claims the lowest free page, or answers 0.
 use mathlib.Core.Path.{sym, ◌∙◌}
 use Rattle.deal.proofs.Laws.{claim_none, claim_some}
-use borrow.Author.Rules.{rules}
 use native.Mathlib.Omega.{arith}
 use Rattle.deal.proofs.claim.Goals as goal
 

@@ -1,12 +1,10 @@
 -- `deal::copy_part` meets its contract: copies `count` words of src from `from` on over x's words from `at` on, as far as both go: how
 -- many src has.
-use Prim.Native.Nat.{◌≤◌, ◌-◌, ◌+◌, min}
+use Prim.Native.Nat.{min}
 use native.Mathlib.Nat.{add-zero}
-use mathlib.Core.Path.{◌≡◌, refl, ap, ◌∙◌}
-use lib.Seq.{sets}
-use lib.ListN.{length, take, drop}
+use mathlib.Core.Path.{refl, ap, ◌∙◌}
+use lib.ListN.{take, drop}
 use Rattle.deal.proofs.Laws.{has, part_end, part_next, part_word}
-use borrow.Author.Rules.{rules}
 use native.Mathlib.Omega.{arith}
 use Rattle.deal.proofs.copy_part.Goals as goal
 

@@ -1,13 +1,9 @@
 -- `deal::copy_part` meets its contract: copies `count` words of src from `from` on over x's words from `at` on, as far as both go: how
 -- many src has.
-use Prim.Native.Nat.{◌≤◌, ◌-◌, ◌+◌, min}
-use native.Mathlib.Nat.{add-zero}
-use mathlib.Core.Path.{◌≡◌, refl, ap, ◌∙◌}
+use Prim.Native.Nat.{◌≤◌, ◌-◌, ◌+◌}
+use mathlib.Core.Path.{◌≡◌}
 use lib.Seq.{sets}
 use lib.ListN.{length, take, drop}
-use Rattle.deal.proofs.Laws.{has, part_end, part_next, part_word}
-use borrow.Author.Rules.{rules}
-use native.Mathlib.Omega.{arith}
 use Rattle.deal.proofs.copy_part.Given as goal
 
 abbrev pub invariant-loop-i : goal.invariant-loop-i

@@ -2,7 +2,6 @@
 use lib.Dec.{ltb}
 use mathlib.Core.Bool.{◌&&◌}
 use mathlib.Core.Path.{ap₂}
-use borrow.Author.Rules.{rules}
 use Rattle.deal.proofs.crosses.Goals as goal
 
 pub returns : goal.returns

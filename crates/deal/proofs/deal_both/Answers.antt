@@ -1,7 +1,6 @@
 -- `deal::deal_both` meets its contract: the halves of the entry at word a of src go to pages j and r; q is the child's right page.
 use mathlib.Core.Path.{◌∙◌}
 use Rattle.deal.proofs.Laws.{both_is}
-use borrow.Author.Rules.{rules}
 use native.Mathlib.Omega.{arith}
 use Rattle.deal.proofs.deal_both.Goals as goal
 

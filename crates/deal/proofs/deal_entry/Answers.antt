@@ -1,5 +1,4 @@
 -- `deal::deal_entry` meets its contract: the entry at word a of src, which does not cross, goes to its side.
-use borrow.Author.Rules.{rules}
 use mathlib.Core.Path.{◌∙◌}
 use Rattle.deal.proofs.deal_entry.Goals as goal
 

@@ -1,5 +1,4 @@
 -- `deal::deal_point` meets its contract: the record at word a of src goes to page j if its key is below x, else to page r.
-use borrow.Author.Rules.{rules}
 use mathlib.Core.Path.{◌∙◌}
 use Rattle.deal.proofs.deal_point.Goals as goal
 

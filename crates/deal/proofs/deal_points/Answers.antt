@@ -1,11 +1,7 @@
 -- `deal::deal_points` meets its contract: the m records of src are dealt out.
-use Prim.Native.Nat.{◌≤◌, ◌-◌, ◌+◌, ◌*◌}
 use native.Mathlib.Nat.{sub-zero}
-use mathlib.Core.Path.{◌≡◌, refl, ◌∙◌}
-use lib.ListN.{length}
-use Rattle.steps.specs.Split.{points_in}
+use mathlib.Core.Path.{refl, ◌∙◌}
 use Rattle.deal.proofs.Laws.{points_end, points_next}
-use borrow.Author.Rules.{rules}
 use native.Mathlib.Omega.{arith}
 use Rattle.deal.proofs.deal_points.Goals as goal
 

@@ -1,7 +1,6 @@
 -- `deal::fresh` meets its contract: page c becomes a page of that kind and splitting domain with no entry.
 use mathlib.Core.Path.{◌∙◌}
 use Rattle.deal.proofs.Laws.{fresh_is}
-use borrow.Author.Rules.{rules}
 use Rattle.deal.proofs.fresh.Goals as goal
 
 pub shape_of-pool : goal.shape_of-pool

@@ -1,7 +1,6 @@
 -- `deal::half` meets its contract: writes one half of the entry at word a of src: its word i becomes x, its child q. How many words of it
 -- src has.
 use mathlib.Core.Path.{◌∙◌}
-use borrow.Author.Rules.{rules}
 use Rattle.deal.proofs.half.Goals as goal
 
 pub returns : goal.returns

@@ -1,7 +1,6 @@
 -- `deal::open_pages` meets its contract: claims the right page, and clears page j for the left: the right page, or 0.
 use mathlib.Core.Path.{◌∙◌}
 use Rattle.deal.proofs.Laws.{open_none, open_some}
-use borrow.Author.Rules.{rules}
 use native.Mathlib.Omega.{arith}
 use Rattle.deal.proofs.open_pages.Goals as goal
 

@@ -1,7 +1,6 @@
 -- `deal::part_points` meets its contract: the m records of src go to page j and a claimed page, both of domain e: the claimed page, or 0.
 use mathlib.Core.Path.{◌∙◌}
 use Rattle.deal.proofs.Laws.{points_none, points_some}
-use borrow.Author.Rules.{rules}
 use native.Mathlib.Omega.{arith}
 use Rattle.deal.proofs.part_points.Goals as goal
 

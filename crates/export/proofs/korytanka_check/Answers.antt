@@ -1,6 +1,5 @@
 -- `export::korytanka_check` keeps the promise of the call that it passes on: its number crosses.
 use mathlib.Core.Path.{◌∙◌}
-use borrow.Author.Rules.{rules}
 use Rattle.export.proofs.korytanka_check.Goals as goal
 
 pub returns : goal.returns

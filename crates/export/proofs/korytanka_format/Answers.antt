@@ -1,6 +1,5 @@
 -- `export::korytanka_format` keeps the promise of the call that it passes on: its number crosses.
 use mathlib.Core.Path.{◌∙◌}
-use borrow.Author.Rules.{rules}
 use Rattle.export.proofs.korytanka_format.Goals as goal
 
 pub returns : goal.returns

@@ -1,6 +1,5 @@
 -- `export::korytanka_list` keeps the promise of the call that it passes on: each case crosses as its number, its fields and the buffers.
 use Rattle.export.proofs.Crossing.{refused_two, promise_fits}
-use borrow.Author.Rules.{rules}
 use Rattle.export.proofs.korytanka_list.Goals as goal
 
 pub overflow_cast-result : goal.overflow_cast-result

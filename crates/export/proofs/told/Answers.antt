@@ -2,7 +2,6 @@
 use mathlib.Core.Path.{sym, ap, ◌∙◌}
 use Rattle.opening.specs.Opens.{finished_as}
 use Rattle.export.proofs.Crossing.{told_refused}
-use borrow.Author.Rules.{rules}
 use Rattle.export.proofs.told.Goals as goal
 
 pub returns-in-Done : goal.returns-in-Done

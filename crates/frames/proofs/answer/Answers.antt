@@ -1,6 +1,5 @@
 -- `frames::answer` meets its contract: words past the buffer's end count as its end.
 use Rattle.frames.proofs.Lines.{take_within}
-use borrow.Author.Rules.{rules}
 use native.Mathlib.Omega.{arith}
 use Rattle.frames.proofs.answer.Goals as goal
 

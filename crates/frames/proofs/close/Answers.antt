@@ -2,7 +2,6 @@
 use Rattle.replies.proofs.Replies.{unframed, counted_some, counted_none}
 use lib.Seq.{length-take-le}
 use mathlib.Core.Path.{refl, sym}
-use borrow.Author.Rules.{rules}
 use native.Mathlib.Omega.{arith}
 use Rattle.frames.proofs.close.Goals as goal
 

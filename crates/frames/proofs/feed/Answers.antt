@@ -1,5 +1,4 @@
 -- `frames::feed` meets its contract: words past the buffer's end count as its end.
-use borrow.Author.Rules.{rules}
 use Rattle.frames.proofs.feed.Goals as goal
 
 pub returns : goal.returns

@@ -1,11 +1,8 @@
 -- `frames::feed_all` meets its contract: a byte a turn; all that is kept, and the output, are those after the bytes taken.
-use Rattle.frames.proofs.Bytes.{Looping, feeding_none, feeding_next, feeding_end}
+use Rattle.frames.proofs.Bytes.{Looping}
 use Rattle.frames.specs.State.{store_of}
 use lib.ListN.{length}
-use mathlib.Core.Path.{refl, sym, ◌∙◌}
 use Prim.Native.Nat.{◌-◌}
-use borrow.Author.Rules.{rules}
-use native.Mathlib.Omega.{arith}
 use Rattle.frames.proofs.feed_all.Given as goal
 
 abbrev pub invariant-loop-i : goal.invariant-loop-i

@@ -6,7 +6,6 @@ use Rattle.text.proofs.Write.{written_none}
 use Rattle.kdb.proofs.Frames.{reply_long}
 use lib.Seq.{length-take-le}
 use mathlib.Core.Path.{refl, sym}
-use borrow.Author.Rules.{rules}
 use native.Mathlib.Omega.{arith}
 use Rattle.frames.proofs.line_answer.Goals as goal
 

@@ -1,7 +1,6 @@
 -- `frames::push` meets its contract: the character is kept, or there is no room.
 use mathlib.Core.Path.{refl, sym}
 use lib.Seq.{set_out}
-use borrow.Author.Rules.{rules}
 use native.Mathlib.Omega.{arith}
 use Rattle.frames.proofs.push.Goals as goal
 

@@ -1,7 +1,6 @@
 -- `frames::step` meets its contract: a line feed ends the line, another byte makes it longer.
 use Rattle.frames.proofs.Bytes.{step_feed, step_other}
 use Rattle.frames.specs.State.{store_of}
-use borrow.Author.Rules.{rules}
 use native.Mathlib.Omega.{arith}
 use Rattle.frames.proofs.step.Goals as goal
 

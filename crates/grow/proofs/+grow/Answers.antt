@@ -1,5 +1,5 @@
 -- `grow::grow` meets its contract: page j, `level` levels above the point pages, takes the point with its location.
-use Prim.Native.Nat.{ℕ, ◌<◌, ◌-◌}
+use Prim.Native.Nat.{◌-◌}
 use mathlib.Core.Path.{◌∙◌}
 use Rattle.kdb.specs.Pages.{regions_per, points_per}
 use Rattle.grow.proofs.Laws as laws

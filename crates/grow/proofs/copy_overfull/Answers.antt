@@ -5,7 +5,6 @@ use lib.Seq.{sets, take_all}
 use Rattle.kdb.specs.Pages.{page}
 use Rattle.words.specs.Words.{word}
 use Rattle.grow.proofs.Laws.{far}
-use borrow.Author.Rules.{rules}
 use native.Mathlib.Omega.{arith}
 use Rattle.grow.proofs.copy_overfull.Goals as goal
 

@@ -6,7 +6,6 @@ use lib.Seq.{length-take-le}
 use Rattle.words.specs.Words.{word}
 use Rattle.grow.specs.Grown.{settle_points}
 use Rattle.grow.proofs.Laws.{record_words, grow_points}
-use borrow.Author.Rules.{rules}
 use native.Mathlib.Omega.{arith}
 use Rattle.grow.proofs.grow_points.Goals as goal
 

@@ -1,6 +1,5 @@
 -- `grow::holds` meets its contract: the region at word a holds the point; one that runs past the end holds none.
 use Rattle.grow.proofs.Laws.{holds_none}
-use borrow.Author.Rules.{rules}
 use native.Mathlib.Omega.{arith}
 use Rattle.grow.proofs.holds.Goals as goal
 

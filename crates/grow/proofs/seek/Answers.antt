@@ -1,11 +1,7 @@
 -- `grow::seek` meets its contract: the place of the first entry of page j whose region holds the point, or 0.
-use Prim.Native.Nat.{◌≤◌, ◌<◌, ◌-◌, ◌+◌, ◌*◌, ◌^◌}
 use native.Mathlib.Nat.{sub-zero}
-use mathlib.Core.Path.{◌≡◌, sym, ◌∙◌}
-use Rattle.words.specs.Words.{word}
-use Rattle.steps.specs.Grow.{seek_in}
+use mathlib.Core.Path.{sym, ◌∙◌}
 use Rattle.grow.proofs.Laws.{seek_end, seek_here, seek_next}
-use borrow.Author.Rules.{rules}
 use native.Mathlib.Omega.{arith}
 use Rattle.grow.proofs.seek.Goals as goal
 

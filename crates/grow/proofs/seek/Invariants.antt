@@ -1,12 +1,8 @@
 -- `grow::seek` meets its contract: the place of the first entry of page j whose region holds the point, or 0.
 use Prim.Native.Nat.{◌≤◌, ◌<◌, ◌-◌, ◌+◌, ◌*◌, ◌^◌}
-use native.Mathlib.Nat.{sub-zero}
-use mathlib.Core.Path.{◌≡◌, sym, ◌∙◌}
+use mathlib.Core.Path.{◌≡◌}
 use Rattle.words.specs.Words.{word}
 use Rattle.steps.specs.Grow.{seek_in}
-use Rattle.grow.proofs.Laws.{seek_end, seek_here, seek_next}
-use borrow.Author.Rules.{rules}
-use native.Mathlib.Omega.{arith}
 use Rattle.grow.proofs.seek.Given as goal
 
 abbrev pub invariant-loop-i : goal.invariant-loop-i

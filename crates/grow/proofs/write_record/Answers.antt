@@ -2,7 +2,6 @@
 use mathlib.Core.Path.{ap, ◌∙◌}
 use lib.ListN.{set}
 use lib.Seq.{sets, take_all}
-use borrow.Author.Rules.{rules}
 use native.Mathlib.Omega.{arith}
 use Rattle.grow.proofs.write_record.Goals as goal
 

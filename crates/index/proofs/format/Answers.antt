@@ -6,7 +6,6 @@ use native.Mathlib.Omega.{arith}
 use Rattle.kdb.specs.Calls.{alone, gives}
 use Rattle.words.proofs.Laws.{long, count_none, count_some}
 use Rattle.index.proofs.Laws.{format_long, format_domains, format_done, formats, outside, inside}
-use borrow.Author.Rules.{rules}
 use Rattle.index.proofs.format.Goals as goal
 
 pub returns-then-n-eq0 : goal.returns-then-n-eq0

@@ -3,7 +3,6 @@ use mathlib.Core.Path.{sym, ap, ◌∙◌}
 use Rattle.kdb.specs.Calls.{L}
 use Rattle.kdb.specs.Walk.{find_walk}
 use Rattle.index.proofs.Laws.{is_here, present_of}
-use borrow.Author.Rules.{rules}
 use Rattle.index.proofs.is_there.Goals as goal
 
 pub returns-in-Here : goal.returns-in-Here

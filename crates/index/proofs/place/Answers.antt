@@ -1,13 +1,10 @@
 -- `index::place` meets its contract: each way out is the definition's outcome.
 use mathlib.Core.List.{[]}
 use mathlib.Core.Path.{sym, ap, ◌∙◌}
-use lib.Dec.{T}
 use Rattle.kdb.specs.declared.Refusal.TheVariants.{NoFreePage}
-use Rattle.kdb.specs.Calls.{working, gives, refuses, all_hold}
-use Rattle.words.specs.Words.{form_of, Fit}
+use Rattle.kdb.specs.Calls.{working, gives, refuses}
 use Rattle.opening.proofs.Laws.{opened}
-use Rattle.index.proofs.Laws.{opening, place_fits, place_refused, place_fit, place_present, place_room, place_done, place_short}
-use borrow.Author.Rules.{rules}
+use Rattle.index.proofs.Laws.{place_refused, place_fit, place_present, place_room, place_done, place_short}
 use native.Mathlib.Omega.{arith}
 use Rattle.index.proofs.place.Goals as goal
 

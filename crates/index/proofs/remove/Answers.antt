@@ -1,15 +1,11 @@
 -- `index::remove` meets its contract: each way out is the definition's outcome.
 use mathlib.Core.List.{[], ◌∷◌}
 use mathlib.Core.Path.{refl, sym, ap, ◌∙◌}
-use lib.Dec.{T, eqb}
-use lib.ListN.{length}
 use Rattle.kdb.specs.Print.{sound}
 use Rattle.kdb.specs.declared.Refusal.TheVariants.{Unsound}
-use Rattle.kdb.specs.Calls.{L, ◌or◌, alone, gives, all_hold}
-use Rattle.words.specs.Words.{form_of, Fit}
+use Rattle.kdb.specs.Calls.{L, ◌or◌, alone, gives}
 use Rattle.opening.proofs.Laws.{opened, fitting}
-use Rattle.index.proofs.Laws.{opening, remove_refused, remove_near, remove_done, remove_missing, here_of}
-use borrow.Author.Rules.{rules}
+use Rattle.index.proofs.Laws.{remove_refused, remove_near, remove_done, remove_missing, here_of}
 use Rattle.index.proofs.remove.Goals as goal
 
 pub returns-in-Refused : goal.returns-in-Refused

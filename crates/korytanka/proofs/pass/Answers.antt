@@ -5,8 +5,7 @@ use lib.Seq.{length-take-le, take_all}
 use lib.Dec.{T}
 use lib.ListN.{length, take, drop, length-take, length-drop}
 use mathlib.Core.Path.{◌≡◌, sym, ap, subst, ◌∙◌}
-use Prim.Native.Nat.{◌-◌, ◌≤◌, min}
-use borrow.Author.Rules.{rules}
+use Prim.Native.Nat.{◌-◌, min}
 use native.Mathlib.Omega.{arith}
 use Rattle.korytanka.proofs.pass.Goals as goal
 

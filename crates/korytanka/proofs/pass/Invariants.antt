@@ -1,13 +1,8 @@
 -- `korytanka::pass` meets its contract: part by part; all that is kept is that after the bytes fed so far.
-use Rattle.frames.proofs.Bytes.{fed_some, fed_on}
 use Rattle.frames.specs.State.{store_of, kept}
-use lib.Seq.{length-take-le, take_all}
-use lib.Dec.{T}
-use lib.ListN.{length, take, drop, length-take, length-drop}
-use mathlib.Core.Path.{◌≡◌, sym, ap, subst, ◌∙◌}
-use Prim.Native.Nat.{◌-◌, ◌≤◌, min}
-use borrow.Author.Rules.{rules}
-use native.Mathlib.Omega.{arith}
+use lib.ListN.{length, take}
+use mathlib.Core.Path.{◌≡◌}
+use Prim.Native.Nat.{◌-◌, ◌≤◌}
 use Rattle.korytanka.proofs.pass.Given as goal
 
 abbrev pub invariant-loop-at : goal.invariant-loop-at

@@ -1,9 +1,6 @@
 -- `korytanka::run` meets its contract: the buffers keep their sizes, and the pool its bound; each turn falls by one.
 use lib.Seq.{length-take-le}
-use mathlib.Core.Path.{◌≡◌, sym}
-use Prim.Native.Nat.{◌≤◌}
-use lib.ListN.{length}
-use borrow.Author.Rules.{rules}
+use mathlib.Core.Path.{sym}
 use native.Mathlib.Omega.{arith}
 use Rattle.korytanka.proofs.run.Goals as goal
 

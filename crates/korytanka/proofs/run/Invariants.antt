@@ -1,10 +1,7 @@
 -- `korytanka::run` meets its contract: the buffers keep their sizes, and the pool its bound; each turn falls by one.
-use lib.Seq.{length-take-le}
-use mathlib.Core.Path.{◌≡◌, sym}
+use mathlib.Core.Path.{◌≡◌}
 use Prim.Native.Nat.{◌≤◌}
 use lib.ListN.{length}
-use borrow.Author.Rules.{rules}
-use native.Mathlib.Omega.{arith}
 use Rattle.korytanka.proofs.run.Given as goal
 
 abbrev pub invariant-loop-turns : goal.invariant-loop-turns

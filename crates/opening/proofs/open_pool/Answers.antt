@@ -1,9 +1,7 @@
 -- `opening::open_pool` meets its contract: the first test that fails gives its refusal.
 use mathlib.Core.Path.{sym, ◌∙◌}
-use borrow.Author.Tests.{not-true, not-false}
 use Rattle.words.proofs.Laws.{long, count_none, count_some}
 use Rattle.opening.proofs.Laws.{long_fails, header_fails, fit_fails, ends_fail, all_hold_lem}
-use borrow.Author.Rules.{rules}
 use Rattle.opening.proofs.open_pool.Goals as goal
 
 pub returns-then-n-eq0 : goal.returns-then-n-eq0

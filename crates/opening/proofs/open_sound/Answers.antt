@@ -1,10 +1,8 @@
 -- `opening::open_sound` meets its contract: the tests of open_pool, and that the pool is sound.
 use mathlib.Core.List.{[]}
 use mathlib.Core.Path.{sym, subst, ◌∙◌}
-use borrow.Author.Tests.{not-true, not-false}
 use Rattle.words.specs.Words.{Fit}
 use Rattle.opening.proofs.Laws.{refused_before, opened, headed, last_fails, last_holds}
-use borrow.Author.Rules.{rules}
 use Rattle.opening.proofs.open_sound.Goals as goal
 
 pub returns-in-Refused : goal.returns-in-Refused

@@ -1,15 +1,11 @@
 -- `pages::all_hold` meets its contract: domain by domain over all points.
 use Prim.Native.Nat.{◌-◌}
-use mathlib.Core.Path.{refl, sym, ◌∙◌}
-use borrow.Author.Tests.{not-true, not-false}
 use lib.ListN.{drop}
 use Rattle.kdb.specs.Lists.{every}
 use Rattle.kdb.specs.Box.{within}
 use Rattle.kdb.specs.Pages.{read_recs}
 use Rattle.words.specs.Words.{region_at}
-use Rattle.pages.proofs.Slots.{Lying, lying_end, lying_stop, lying_next}
-use borrow.Author.Rules.{rules}
-use native.Mathlib.Omega.{arith}
+use Rattle.pages.proofs.Slots.{Lying}
 use Rattle.pages.proofs.all_hold.Given as goal
 
 abbrev pub invariant-loop-d : goal.invariant-loop-d

@@ -1,6 +1,5 @@
 -- `pages::alone_if` meets its contract.
 use Rattle.pages.proofs.Slots.{point_all}
-use borrow.Author.Rules.{rules}
 use native.Mathlib.Omega.{arith}
 use Rattle.pages.proofs.alone_if.Goals as goal
 

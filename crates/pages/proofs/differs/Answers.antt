@@ -1,12 +1,7 @@
 -- `pages::differs` meets its contract: point by point, and out at the first with the same keys.
-use Prim.Native.Nat.{◌-◌}
 use mathlib.Core.Path.{refl, sym, ◌∙◌}
 use native.Mathlib.Nat.{sub-zero}
-use lib.ListN.{drop}
-use Rattle.kdb.specs.Pages.{read_recs}
-use Rattle.pages.specs.Tests.{rec_key, unlike}
-use Rattle.pages.proofs.Slots.{point_first, Unlike, unlike_end, unlike_stop, unlike_next}
-use borrow.Author.Rules.{rules}
+use Rattle.pages.proofs.Slots.{point_first, unlike_end, unlike_stop, unlike_next}
 use native.Mathlib.Omega.{arith}
 use Rattle.pages.proofs.differs.Goals as goal
 

@@ -1,5 +1,4 @@
 -- `pages::head_good` meets its contract: the four words, each within the pool.
-use borrow.Author.Rules.{rules}
 use Rattle.pages.proofs.head_good.Goals as goal
 
 pub returns : goal.returns

@@ -1,8 +1,6 @@
 -- `pages::point_page` meets its contract: head, tail, points in the region and different, each read within the pool.
 use mathlib.Core.Path.{sym, ◌∙◌}
-use borrow.Author.Tests.{not-true, not-false}
 use Rattle.pages.proofs.OnePage.{points_head, points_tail, points_out, points_last, point_room_lem}
-use borrow.Author.Rules.{rules}
 use native.Mathlib.Omega.{arith}
 use Rattle.pages.proofs.point_page.Goals as goal
 

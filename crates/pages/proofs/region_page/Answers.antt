@@ -1,8 +1,6 @@
 -- `pages::region_page` meets its contract: head, tail and tiling, each read within the pool.
 use mathlib.Core.Path.{sym, ◌∙◌}
-use borrow.Author.Tests.{not-true, not-false}
 use Rattle.pages.proofs.OnePage.{regions_head, regions_tail, regions_last, region_room_lem}
-use borrow.Author.Rules.{rules}
 use native.Mathlib.Omega.{arith}
 use Rattle.pages.proofs.region_page.Goals as goal
 

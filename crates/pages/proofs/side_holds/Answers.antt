@@ -1,14 +1,11 @@
 -- `pages::side_holds` meets its contract: key by key, and out at the first that is not in the side.
-use Prim.Native.Nat.{◌-◌, ◌+◌}
+use Prim.Native.Nat.{◌+◌}
 use mathlib.Core.Path.{refl}
 use native.Mathlib.Nat.{sub-zero}
-use lib.ListN.{drop, get_or}
+use lib.ListN.{get_or}
 use Rattle.kdb.specs.Box.{Side}
-use Rattle.kdb.specs.Pages.{read_recs}
 use Rattle.cover.proofs.Loops.{row_first}
-use Rattle.pages.specs.Tests.{column_in}
-use Rattle.pages.proofs.Slots.{key_under, key_past, key_in, Column, column_end, column_stop, column_next}
-use borrow.Author.Rules.{rules}
+use Rattle.pages.proofs.Slots.{key_under, key_past, key_in, column_end, column_stop, column_next}
 use native.Mathlib.Omega.{arith}
 use Rattle.pages.proofs.side_holds.Goals as goal
 

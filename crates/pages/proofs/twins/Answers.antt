@@ -1,10 +1,6 @@
 -- `pages::twins` meets its contract: key by key, and out at the first that differs.
-use Prim.Native.Nat.{◌-◌}
 use mathlib.Core.Path.{refl, sym, ◌∙◌}
-use Rattle.kdb.specs.Lists.{same}
-use Rattle.pages.specs.Tests.{rec_key}
-use Rattle.pages.proofs.Slots.{Twin, twin_end, twin_stop, twin_next}
-use borrow.Author.Rules.{rules}
+use Rattle.pages.proofs.Slots.{twin_end, twin_stop, twin_next}
 use native.Mathlib.Omega.{arith}
 use Rattle.pages.proofs.twins.Goals as goal
 

@@ -1,7 +1,6 @@
 -- `place::finish` meets its contract: what the root became.
 use mathlib.Core.Path.{◌∙◌}
 use Rattle.place.proofs.Laws.{topped_root, topped_fine, topped_short}
-use borrow.Author.Rules.{rules}
 use Rattle.place.proofs.finish.Goals as goal
 
 pub returns-then-page-ne0 : goal.returns-then-page-ne0

@@ -9,7 +9,6 @@ use Rattle.steps.specs.Machine.{head_in, append_in}
 use Rattle.split.specs.Part.{passed}
 use Rattle.grow.proofs.Laws.{record_words}
 use Rattle.place.proofs.Laws.{first_none, first_some}
-use borrow.Author.Rules.{rules}
 use native.Mathlib.Omega.{arith}
 use Rattle.place.proofs.first_point.Goals as goal
 

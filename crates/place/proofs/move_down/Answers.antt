@@ -1,11 +1,7 @@
 -- `place::move_down` meets its contract: the n words behind the wd words at word a move down over them.
-use Prim.Native.Nat.{◌≤◌, ◌-◌, ◌+◌}
 use native.Mathlib.Nat.{sub-zero}
-use mathlib.Core.Path.{◌≡◌, refl, ◌∙◌}
-use lib.ListN.{length}
-use Rattle.steps.specs.Remove.{down_in}
+use mathlib.Core.Path.{refl, ◌∙◌}
 use Rattle.place.proofs.Laws.{down_end, down_next}
-use borrow.Author.Rules.{rules}
 use native.Mathlib.Omega.{arith}
 use Rattle.place.proofs.move_down.Goals as goal
 

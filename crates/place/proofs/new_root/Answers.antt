@@ -5,7 +5,6 @@ use mathlib.Core.Bool.{true}
 use Rattle.steps.specs.Machine.{head_in, append_in}
 use Rattle.split.specs.Part.{passed}
 use Rattle.place.proofs.Laws.{root_none, root_some, whole_half}
-use borrow.Author.Rules.{rules}
 use native.Mathlib.Omega.{arith}
 use Rattle.place.proofs.new_root.Goals as goal
 

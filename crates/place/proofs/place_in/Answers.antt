@@ -3,7 +3,6 @@
 use Rattle.kdb.proofs.Stores.{sets_all}
 use mathlib.Core.Path.{sym, ◌∙◌}
 use Rattle.place.proofs.Laws.{place_done, place_back}
-use borrow.Author.Rules.{rules}
 use Rattle.place.proofs.place_in.Goals as goal
 
 pub shape_of-pool-then-ok : goal.shape_of-pool-then-ok

@@ -1,7 +1,6 @@
 -- `place::place_steps` meets its contract: the steps of placing; where a page is wanting they are left half-way.
 use mathlib.Core.Path.{sym, ◌∙◌}
 use Rattle.place.proofs.Laws.{steps_first, steps_grown}
-use borrow.Author.Rules.{rules}
 use Rattle.place.proofs.place_steps.Goals as goal
 
 pub returns-then-levels-eq0 : goal.returns-then-levels-eq0

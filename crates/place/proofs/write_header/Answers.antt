@@ -1,7 +1,6 @@
 -- `place::write_header` meets its contract: the header's root, levels and count.
 use mathlib.Core.Path.{◌∙◌}
 use Rattle.place.proofs.Laws.{header_is}
-use borrow.Author.Rules.{rules}
 use Rattle.place.proofs.write_header.Goals as goal
 
 pub returns : goal.returns

@@ -2,7 +2,6 @@
 use mathlib.Core.Path.{refl}
 use Rattle.kdb.specs.Calls.{check}
 use Rattle.opening.proofs.Laws.{opens_kept}
-use borrow.Author.Rules.{rules}
 use Rattle.query.proofs.check.Goals as goal
 
 pub returns : goal.returns

@@ -1,13 +1,8 @@
 -- `query::find` meets its contract: each way out is the definition's outcome.
 use mathlib.Core.List.{[]}
 use mathlib.Core.Path.{sym, ◌∙◌}
-use lib.Dec.{T, eqb}
-use lib.ListN.{length}
-use Rattle.kdb.specs.Calls.{all_hold, head_tests}
-use Rattle.words.specs.Words.{form_of, Fit}
 use Rattle.opening.proofs.Laws.{opened, fitting}
 use Rattle.query.proofs.Laws.{find_refused, find_kept}
-use borrow.Author.Rules.{rules}
 use Rattle.query.proofs.find.Goals as goal
 
 pub returns-in-Refused : goal.returns-in-Refused

@@ -1,15 +1,8 @@
 -- `query::list` meets its contract: each way out is the definition's outcome.
 use mathlib.Core.List.{[]}
-use mathlib.Core.Path.{◌≡◌, sym, ◌∙◌}
-use Prim.Native.Nat.{◌*◌}
-use lib.Dec.{T, eqb}
-use lib.ListN.{length}
-use borrow.Author.Tests.{not-true, not-false}
-use Rattle.kdb.specs.Calls.{all_hold, head_tests}
-use Rattle.words.specs.Words.{form_of, Fit}
+use mathlib.Core.Path.{sym, ◌∙◌}
 use Rattle.opening.proofs.Laws.{opened, fitting}
 use Rattle.query.proofs.Laws.{list_refused, list_crossed, list_kept}
-use borrow.Author.Rules.{rules}
 use Rattle.query.proofs.list.Goals as goal
 
 pub returns-in-Refused : goal.returns-in-Refused

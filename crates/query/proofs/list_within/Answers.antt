@@ -8,7 +8,6 @@ use lib.ListN.{length, replicate}
 use mathlib.Core.List.{[], ◌∷◌}
 use mathlib.Core.Path.{ap, ◌∙◌}
 use Prim.Native.Nat.{◌-◌}
-use borrow.Author.Rules.{rules}
 use Rattle.query.proofs.list_within.Goals as goal
 
 pub shape_of-answer-then-t : goal.shape_of-answer-then-t

@@ -5,7 +5,6 @@ use lib.Seq.{length-take-le}
 use lib.ListN.{take}
 use mathlib.Core.Path.{sym}
 use Rattle.kdb.specs.Calls.{alone}
-use borrow.Author.Rules.{rules}
 use native.Mathlib.Omega.{arith}
 use Rattle.replies.proofs.find_frame.Goals as goal
 

@@ -6,7 +6,6 @@ use Rattle.kdb.specs.Frames.{place_of}
 use mathlib.Core.Path.{refl}
 use Rattle.replies.proofs.Calls.{unplaced}
 use lib.ListN.{take}
-use borrow.Author.Rules.{rules}
 use native.Mathlib.Omega.{arith}
 use Rattle.replies.proofs.frame.Goals as goal
 

@@ -6,7 +6,6 @@ use Rattle.replies.proofs.Replies.{unframed, counted_some, counted_none}
 use lib.Seq.{length-take-le}
 use mathlib.Core.Path.{sym}
 use Rattle.kdb.specs.Calls.{answering}
-use borrow.Author.Rules.{rules}
 use native.Mathlib.Omega.{arith}
 use Rattle.replies.proofs.list_frame.Goals as goal
 

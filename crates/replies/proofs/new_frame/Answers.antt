@@ -7,7 +7,6 @@ use Prim.Native.Nat.{◌+◌, ◌*◌}
 use lib.ListN.{take}
 use mathlib.Core.Path.{refl, sym}
 use Rattle.kdb.specs.Calls.{alone}
-use borrow.Author.Rules.{rules}
 use native.Mathlib.Omega.{arith}
 use Rattle.replies.proofs.new_frame.Goals as goal
 

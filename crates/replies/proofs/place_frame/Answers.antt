@@ -7,7 +7,6 @@ use mathlib.Core.Path.{◌≡◌, refl, sym, ◌∙◌}
 use Rattle.replies.proofs.Calls.{place_words, place_replied, place_worked}
 use Prim.Native.Nat.{◌-◌}
 use Rattle.kdb.specs.Calls.{working}
-use borrow.Author.Rules.{rules}
 use native.Mathlib.Omega.{arith}
 use Rattle.replies.proofs.place_frame.Goals as goal
 

@@ -5,7 +5,6 @@ use lib.ListN.{take}
 use mathlib.Core.Path.{sym}
 use Rattle.replies.proofs.Calls.{remove_replied}
 use Rattle.kdb.specs.Calls.{alone}
-use borrow.Author.Rules.{rules}
 use native.Mathlib.Omega.{arith}
 use Rattle.replies.proofs.remove_frame.Goals as goal
 

@@ -1,11 +1,9 @@
 -- `split::entry_pass` and `split::split_page`, which call each other, meet their contracts.
-use Prim.Native.Nat.{ℕ, ◌≤◌, ◌<◌, ◌-◌, ◌+◌, ◌*◌}
+use Prim.Native.Nat.{◌-◌}
 use native.Mathlib.Nat.{sub-zero}
-use mathlib.Core.Path.{◌≡◌, refl, sym, ◌∙◌}
-use lib.ListN.{length}
-use Rattle.steps.specs.Split.{entries_in, split_in}
+use mathlib.Core.Path.{refl, sym, ◌∙◌}
+use Rattle.steps.specs.Split.{split_in}
 use Rattle.split.proofs.Laws as laws
-use borrow.Author.Rules.{rules}
 use native.Mathlib.Omega.{arith}
 use Rattle.split.proofs.+entry_pass_split_page.Goals as goal
 

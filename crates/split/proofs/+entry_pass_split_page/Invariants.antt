@@ -1,12 +1,8 @@
 -- `split::entry_pass` and `split::split_page`, which call each other, meet their contracts.
-use Prim.Native.Nat.{ℕ, ◌≤◌, ◌<◌, ◌-◌, ◌+◌, ◌*◌}
-use native.Mathlib.Nat.{sub-zero}
-use mathlib.Core.Path.{◌≡◌, refl, sym, ◌∙◌}
+use Prim.Native.Nat.{◌≤◌, ◌-◌, ◌+◌, ◌*◌}
+use mathlib.Core.Path.{◌≡◌}
 use lib.ListN.{length}
 use Rattle.steps.specs.Split.{entries_in, split_in}
-use Rattle.split.proofs.Laws as laws
-use borrow.Author.Rules.{rules}
-use native.Mathlib.Omega.{arith}
 use Rattle.split.proofs.+entry_pass_split_page.Given as goal
 
 abbrev pub invariant-entry_pass-loop-i : goal.invariant-entry_pass-loop-i

@@ -1,5 +1,4 @@
 -- `split::after_forced` meets its contract: the splitting domain of both pages after a forced split of page j.
-use borrow.Author.Rules.{rules}
 use Rattle.split.proofs.after_forced.Goals as goal
 
 pub returns : goal.returns

@@ -2,7 +2,6 @@
 -- both of domain e: the claimed page, or 0.
 use mathlib.Core.Path.{◌∙◌}
 use Rattle.split.proofs.Laws as laws
-use borrow.Author.Rules.{rules}
 use native.Mathlib.Omega.{arith}
 use Rattle.split.proofs.part_regions.Goals as goal
 

@@ -1,7 +1,6 @@
 -- `text::byte_at` meets its contract: the byte within the slice, 0 past its end.
 use lib.ListN.{get_or-eq_default}
 use mathlib.Core.Path.{refl, sym}
-use borrow.Author.Rules.{rules}
 use native.Mathlib.Omega.{arith}
 use Rattle.text.proofs.byte_at.Goals as goal
 

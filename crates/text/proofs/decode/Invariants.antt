@@ -1,10 +1,8 @@
 -- `text::decode` meets its contract: two digits a turn; what is read and what is left are the line's bytes.
-use Rattle.text.proofs.Read.{Taken, taken_none, bytes_next, bytes_bad, bytes_odd, bytes_end}
+use Rattle.text.proofs.Read.{Taken}
 use Rattle.kdb.specs.Frames.{bytes_of}
 use lib.ListN.{length}
 use Prim.Native.Nat.{◌-◌}
-use borrow.Author.Rules.{rules}
-use native.Mathlib.Omega.{arith}
 use Rattle.text.proofs.decode.Given as goal
 
 abbrev pub invariant-loop-n : goal.invariant-loop-n

@@ -1,6 +1,5 @@
 -- `text::digit_of` meets its contract: each range of values has its digit.
 use borrow.Author.Tests.{lt-ltb, le-ltb}
-use borrow.Author.Rules.{rules}
 use Rattle.text.proofs.digit_of.Goals as goal
 
 pub returns-then-v-lt10 : goal.returns-then-v-lt10

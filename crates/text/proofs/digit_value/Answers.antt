@@ -1,7 +1,6 @@
 -- `text::digit_value` meets its contract: each range of characters has its values, and no other character is a digit.
 use Rattle.text.proofs.Read.{inside, under, over}
 use borrow.Author.Tests.{lt-ltb}
-use borrow.Author.Rules.{rules}
 use Prim.Native.Nat.{◌-◌}
 use native.Mathlib.Omega.{arith}
 use Rattle.text.proofs.digit_value.Goals as goal

@@ -1,6 +1,5 @@
 -- `text::pair_value` meets its contract: both are digits, or the byte is none.
 use Rattle.text.proofs.Read.{pair_digits, pair_bad}
-use borrow.Author.Rules.{rules}
 use Rattle.text.proofs.pair_value.Goals as goal
 
 pub returns-then-h-l : goal.returns-then-h-l

@@ -1,7 +1,6 @@
 -- `text::put` meets its contract: the byte is set, or lies past the end.
 use mathlib.Core.Path.{sym}
 use lib.Seq.{set_out}
-use borrow.Author.Rules.{rules}
 use Rattle.text.proofs.put.Goals as goal
 
 pub returns-else-at-out : goal.returns-else-at-out

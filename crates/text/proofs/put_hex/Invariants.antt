@@ -1,8 +1,5 @@
 -- `text::put_hex` meets its contract: the last digit first; those still to be written are the digits of what is left.
-use Rattle.text.proofs.Write.{Hexed, hexed_next, hexed_end}
-use mathlib.Core.Path.{refl}
-use borrow.Author.Rules.{rules}
-use native.Mathlib.Omega.{arith}
+use Rattle.text.proofs.Write.{Hexed}
 use Rattle.text.proofs.put_hex.Given as goal
 
 abbrev pub invariant-loop-left : goal.invariant-loop-left

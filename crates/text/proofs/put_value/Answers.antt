@@ -1,6 +1,5 @@
 -- `text::put_value` meets its contract: the digits, or nothing.
 use Rattle.text.proofs.Write.{written_none}
-use borrow.Author.Rules.{rules}
 use native.Mathlib.Omega.{arith}
 use Rattle.text.proofs.put_value.Goals as goal
 

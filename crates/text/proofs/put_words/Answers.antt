@@ -1,9 +1,6 @@
 -- `text::put_words` meets its contract: a word a turn; the texts of the words so far stand in the buffer.
-use Rattle.text.proofs.Write.{Worded, worded_none, worded_next, worded_end, written_long, length_hex}
+use Rattle.text.proofs.Write.{worded_none, worded_next, worded_end, written_long, length_hex}
 use Rattle.kdb.specs.Frames.{hex}
-use lib.ListN.{length}
-use Prim.Native.Nat.{◌-◌}
-use borrow.Author.Rules.{rules}
 use native.Mathlib.Omega.{arith}
 use Rattle.text.proofs.put_words.Goals as goal
 

@@ -1,10 +1,8 @@
 -- `text::words_of` meets its contract: four bytes a turn; what is read and what is left are the words.
-use Rattle.text.proofs.Read.{Taken, taken_none, words_next, words_part, words_end}
+use Rattle.text.proofs.Read.{Taken}
 use Rattle.kdb.specs.Frames.{words_of}
 use lib.ListN.{length}
 use Prim.Native.Nat.{◌-◌}
-use borrow.Author.Rules.{rules}
-use native.Mathlib.Omega.{arith}
 use Rattle.text.proofs.words_of.Given as goal
 
 abbrev pub invariant-loop-n : goal.invariant-loop-n

@@ -1,17 +1,10 @@
 -- `walk::list_page` meets its contract: by the level; the state after the pages passed, then those left, is the state after all.
-use Rattle.walk.proofs.List.{halts, stops_at, enters, kept_on, page_bad, page_in, page_good, not_all, not_bad, each_end, each_next}
-use Rattle.walk.specs.Pages.{region_words}
 use Rattle.walk.specs.List.{Kept, seen, each, moved_by}
 use Rattle.kdb.specs.Calls.{L, window_of}
 use Rattle.kdb.specs.Walk.{tour}
 use lib.ListN.{length, take, drop}
-use native.Mathlib.Nat.{sub-zero}
-use borrow.Author.Tests.{not-true, not-false}
-use mathlib.Core.Bool.{not}
-use mathlib.Core.Path.{◌≡◌, refl, sym, ◌∙◌}
-use borrow.Author.Rules.{rules}
-use native.Mathlib.Omega.{arith}
-use Prim.Native.Nat.{ℕ, ◌-◌, ◌<◌}
+use mathlib.Core.Path.{◌≡◌}
+use Prim.Native.Nat.{◌-◌}
 use Rattle.walk.proofs.+list_page.Given as goal
 
 abbrev pub invariant-loop-i : goal.invariant-loop-i

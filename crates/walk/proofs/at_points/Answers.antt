@@ -1,9 +1,7 @@
 -- `walk::at_points` meets its contract: the last level of the walk to a point.
 use Rattle.walk.proofs.Seek.{last_out, last_bad, last_good}
 use Rattle.walk.proofs.Pages.{point_page_lem}
-use borrow.Author.Tests.{not-true, not-false}
 use mathlib.Core.Path.{sym, ◌∙◌}
-use borrow.Author.Rules.{rules}
 use Rattle.walk.proofs.at_points.Goals as goal
 
 pub returns-then-not-is_page : goal.returns-then-not-is_page

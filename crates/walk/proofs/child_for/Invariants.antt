@@ -1,16 +1,11 @@
 -- `walk::child_for` meets its contract: what is left of the entries gives the child of the whole; what is left ends within the page.
-use Rattle.walk.proofs.Seek.{child_end, child_here, child_next}
-use Rattle.walk.proofs.Pages.{room_next}
 use Rattle.walk.specs.Seek.{child_of}
 use Rattle.words.specs.Words.{word_at}
 use Rattle.kdb.specs.Calls.{L}
 use Rattle.kdb.specs.Pages.{read_ents}
 use lib.ListN.{drop}
-use native.Mathlib.Nat.{sub-zero}
-use mathlib.Core.Path.{◌≡◌, sym, ◌∙◌}
+use mathlib.Core.Path.{◌≡◌}
 use Prim.Native.Nat.{◌+◌, ◌-◌, ◌*◌, ◌≤◌}
-use borrow.Author.Rules.{rules}
-use native.Mathlib.Omega.{arith}
 use Rattle.walk.proofs.child_for.Given as goal
 
 abbrev pub invariant-loop-e : goal.invariant-loop-e

@@ -1,16 +1,10 @@
 -- `walk::descend` meets its contract: the walk from the page reached, after the pages read, is the walk from the root.
 use Rattle.walk.proofs.Seek.{down_out, down_bad, down_next}
 use Rattle.walk.proofs.Pages.{region_page_lem}
-use Rattle.walk.specs.Seek.{sought_as}
-use Rattle.kdb.specs.Calls.{L}
-use Rattle.kdb.specs.Walk.{seek}
-use borrow.Author.Tests.{not-true, not-false}
 use mathlib.Core.Path.{◌≡◌, refl, sym, ◌∙◌}
-use Prim.Native.Nat.{◌+◌, ◌-◌, ◌^◌, ◌<◌, ◌≤◌}
-use borrow.Author.Rules.{rules}
+use Prim.Native.Nat.{◌-◌}
 use native.Mathlib.Omega.{arith}
 use Rattle.walk.proofs.descend.Goals as goal
-
 
 pub loop-left-init : goal.loop-left-init
 loop-left-init c = (c.requires.1.1.0, omega arith, refl)

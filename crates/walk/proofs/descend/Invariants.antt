@@ -1,14 +1,9 @@
 -- `walk::descend` meets its contract: the walk from the page reached, after the pages read, is the walk from the root.
-use Rattle.walk.proofs.Seek.{down_out, down_bad, down_next}
-use Rattle.walk.proofs.Pages.{region_page_lem}
 use Rattle.walk.specs.Seek.{sought_as}
 use Rattle.kdb.specs.Calls.{L}
 use Rattle.kdb.specs.Walk.{seek}
-use borrow.Author.Tests.{not-true, not-false}
-use mathlib.Core.Path.{◌≡◌, refl, sym, ◌∙◌}
+use mathlib.Core.Path.{◌≡◌}
 use Prim.Native.Nat.{◌+◌, ◌-◌, ◌^◌, ◌<◌, ◌≤◌}
-use borrow.Author.Rules.{rules}
-use native.Mathlib.Omega.{arith}
 use Rattle.walk.proofs.descend.Given as goal
 
 abbrev pub invariant-loop-left : goal.invariant-loop-left

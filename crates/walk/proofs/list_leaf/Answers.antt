@@ -2,10 +2,8 @@
 use Rattle.walk.proofs.List.{halts, stops_at, enters, kept_on, leaf_bad, leaf_page, leaf_good}
 use Rattle.walk.specs.Pages.{point_words}
 use Rattle.kdb.specs.Calls.{window_of}
-use borrow.Author.Tests.{not-true, not-false}
 use mathlib.Core.Bool.{false}
 use mathlib.Core.Path.{refl, sym, ◌∙◌}
-use borrow.Author.Rules.{rules}
 use native.Mathlib.Omega.{arith}
 use Rattle.walk.proofs.list_leaf.Goals as goal
 

@@ -1,13 +1,10 @@
 -- `walk::list_leaves` meets its contract: the state after the pages passed, then those left, is the state after all.
 use Rattle.walk.proofs.List.{not_all, not_bad, each_end, each_next}
-use Rattle.walk.specs.List.{Kept, seen, each, moved_by}
 use Rattle.kdb.specs.Calls.{L, window_of}
 use Rattle.kdb.specs.Walk.{tour}
-use lib.ListN.{length, take, drop}
 use native.Mathlib.Nat.{sub-zero}
 use mathlib.Core.Bool.{not}
-use mathlib.Core.Path.{◌≡◌, refl, ◌∙◌}
-use Prim.Native.Nat.{◌-◌}
+use mathlib.Core.Path.{refl, ◌∙◌}
 use native.Mathlib.Omega.{arith}
 use Rattle.walk.proofs.list_leaves.Goals as goal
 

@@ -1,12 +1,7 @@
 -- `walk::list_points` meets its contract: total and slots, with what is left of the records, are those of the whole.
 use Rattle.walk.proofs.List.{note_end, note_next}
-use Rattle.walk.specs.List.{noted, held, found_in}
-use Rattle.words.specs.Words.{word_at}
 use Rattle.kdb.specs.Calls.{window_of}
-use lib.ListN.{length}
-use mathlib.Core.Path.{◌≡◌, refl, ◌∙◌}
-use Prim.Native.Nat.{◌+◌, ◌-◌, ◌≤◌}
-use borrow.Author.Rules.{rules}
+use mathlib.Core.Path.{refl, ◌∙◌}
 use native.Mathlib.Omega.{arith}
 use Rattle.walk.proofs.list_points.Goals as goal
 

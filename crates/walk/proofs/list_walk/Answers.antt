@@ -6,7 +6,6 @@ use Rattle.kdb.specs.Pool.{levels_at, root_at}
 use Rattle.kdb.specs.Walk.{tour}
 use mathlib.Core.Path.{◌≡◌, refl, sym, ap, ◌∙◌}
 use Prim.Native.Nat.{ℕ, ◌-◌}
-use borrow.Author.Rules.{rules}
 use native.Mathlib.Omega.{arith}
 use Rattle.walk.proofs.list_walk.Goals as goal
 

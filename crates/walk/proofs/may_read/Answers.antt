@@ -3,7 +3,6 @@ use mathlib.Core.Bool.{◌&&◌}
 use mathlib.Core.Path.{ap}
 use lib.Dec.{ltb}
 use Prim.Native.Nat.{◌+◌}
-use borrow.Author.Rules.{rules}
 use native.Mathlib.Omega.{arith}
 use Rattle.walk.proofs.may_read.Goals as goal
 

@@ -1,17 +1,12 @@
 -- `walk::meeting` meets its contract: the children that are there, with those of the entries that are left, are those of the whole.
-use Rattle.walk.proofs.List.{children_end, children_next}
-use Rattle.walk.proofs.Pages.{room_next, entries_few}
 use Rattle.walk.specs.List.{children_met}
 use Rattle.words.specs.Words.{word_at}
 use Rattle.kdb.specs.Calls.{L, window_of}
 use Rattle.kdb.specs.Pages.{read_ents}
-use lib.ListN.{length, take, drop, get_or, length-set}
-use native.Mathlib.Nat.{sub-zero}
+use lib.ListN.{length, take, drop}
 use mathlib.Core.List.{◌++◌}
-use mathlib.Core.Path.{◌≡◌, refl, ◌∙◌}
+use mathlib.Core.Path.{◌≡◌}
 use Prim.Native.Nat.{◌+◌, ◌-◌, ◌*◌, ◌≤◌}
-use borrow.Author.Rules.{rules}
-use native.Mathlib.Omega.{arith}
 use Rattle.walk.proofs.meeting.Given as goal
 
 abbrev pub invariant-loop-e : goal.invariant-loop-e

@@ -1,11 +1,6 @@
 -- `walk::record_for` meets its contract: what is left of the records gives the end of the whole.
 use Rattle.walk.proofs.Seek.{record_end, record_here, record_next}
-use Rattle.walk.specs.Seek.{ended}
-use Rattle.words.specs.Words.{word_at, records_from}
-use Rattle.kdb.specs.Walk.{spots, spot_of}
-use mathlib.Core.Path.{◌≡◌, sym, ◌∙◌}
-use Prim.Native.Nat.{◌-◌, ◌≤◌}
-use borrow.Author.Rules.{rules}
+use mathlib.Core.Path.{sym, ◌∙◌}
 use native.Mathlib.Omega.{arith}
 use Rattle.walk.proofs.record_for.Goals as goal
 

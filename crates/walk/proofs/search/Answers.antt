@@ -1,7 +1,6 @@
 -- `walk::search` meets its contract: the walk from the root, if there is one.
 use Rattle.walk.proofs.Seek.{search_none, search_some}
 use mathlib.Core.Path.{sym, ◌∙◌}
-use borrow.Author.Rules.{rules}
 use Rattle.walk.proofs.search.Goals as goal
 
 pub returns-then-levels-eq0 : goal.returns-then-levels-eq0

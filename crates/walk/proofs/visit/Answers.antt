@@ -4,7 +4,6 @@ use Rattle.words.specs.Words.{keys_of, point_location}
 use Rattle.kdb.specs.Box.{in_window}
 use Rattle.kdb.specs.Calls.{window_of}
 use mathlib.Core.Path.{◌∙◌}
-use borrow.Author.Rules.{rules}
 use native.Mathlib.Omega.{arith}
 use Rattle.walk.proofs.visit.Goals as goal
 

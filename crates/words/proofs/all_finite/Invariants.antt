@@ -1,11 +1,8 @@
 -- `words::all_finite` meets its contract: word by word, and out at the first that is ∞.
-use Rattle.words.proofs.Laws.{finite_end, finite_stop, finite_next}
 use Rattle.kdb.specs.Calls.{finite}
 use lib.ListN.{length, drop}
-use mathlib.Core.Path.{◌≡◌, refl}
+use mathlib.Core.Path.{◌≡◌}
 use Prim.Native.Nat.{◌-◌}
-use borrow.Author.Rules.{rules}
-use native.Mathlib.Omega.{arith}
 use Rattle.words.proofs.all_finite.Given as goal
 
 abbrev pub invariant-loop-i : goal.invariant-loop-i

@@ -1,7 +1,5 @@
 -- `words::capacity` meets its contract: the table's rule, at the entry that is read.
 use Rattle.words.proofs.Laws.{capacities, capacity_few}
-use Prim.Native.Nat.{◌-◌}
-use borrow.Author.Rules.{rules}
 use native.Mathlib.Omega.{arith}
 use Rattle.words.proofs.capacity.Goals as goal
 

@@ -1,10 +1,7 @@
 -- `words::clear` meets its contract: what is left to store gives what the whole gives.
 use Rattle.words.proofs.Loops.{clear_end, clear_next}
-use lib.Seq.{sets}
-use lib.ListN.{length, replicate, length-set}
-use mathlib.Core.Path.{◌≡◌, refl, ◌∙◌}
-use Prim.Native.Nat.{◌-◌}
-use borrow.Author.Rules.{rules}
+use lib.ListN.{length-set}
+use mathlib.Core.Path.{refl, ◌∙◌}
 use native.Mathlib.Omega.{arith}
 use Rattle.words.proofs.clear.Goals as goal
 

@@ -1,11 +1,8 @@
 -- `words::clear` meets its contract: what is left to store gives what the whole gives.
-use Rattle.words.proofs.Loops.{clear_end, clear_next}
 use lib.Seq.{sets}
-use lib.ListN.{length, replicate, length-set}
-use mathlib.Core.Path.{◌≡◌, refl, ◌∙◌}
+use lib.ListN.{length, replicate}
+use mathlib.Core.Path.{◌≡◌}
 use Prim.Native.Nat.{◌-◌}
-use borrow.Author.Rules.{rules}
-use native.Mathlib.Omega.{arith}
 use Rattle.words.proofs.clear.Given as goal
 
 abbrev pub invariant-loop-i : goal.invariant-loop-i

@@ -1,10 +1,7 @@
 -- `words::copy` meets its contract: what is left to store gives what the whole gives.
 use Rattle.words.proofs.Loops.{copy_end, copy_next}
-use lib.Seq.{sets}
-use lib.ListN.{length, drop, get_or, length-set}
-use mathlib.Core.Path.{◌≡◌, refl, ◌∙◌}
-use Prim.Native.Nat.{◌-◌}
-use borrow.Author.Rules.{rules}
+use lib.ListN.{get_or, length-set}
+use mathlib.Core.Path.{refl, ◌∙◌}
 use native.Mathlib.Omega.{arith}
 use Rattle.words.proofs.copy.Goals as goal
 

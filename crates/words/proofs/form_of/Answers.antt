@@ -1,5 +1,4 @@
 -- `words::form_of` meets its contract: the pages and the domains that the pool says.
-use borrow.Author.Rules.{rules}
 use Rattle.words.proofs.form_of.Goals as goal
 
 pub returns : goal.returns

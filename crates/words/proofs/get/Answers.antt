@@ -1,5 +1,4 @@
 -- `words::get` meets its contract: a word past the end is 0.
-use borrow.Author.Rules.{rules}
 use native.Mathlib.Omega.{arith}
 use mathlib.Core.Path.{refl, sym}
 use lib.ListN.{get_or-eq_default}

@@ -1,7 +1,6 @@
 -- `words::good_header` meets its contract: the tests of the header's words are the definition's.
 use Rattle.words.proofs.Laws.{both, below, zero_rest}
 use Rattle.kdb.specs.Pool.{good_header}
-use borrow.Author.Rules.{rules}
 use native.Mathlib.Omega.{arith}
 use Rattle.words.proofs.good_header.Goals as goal
 

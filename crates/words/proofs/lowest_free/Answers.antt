@@ -1,11 +1,6 @@
 -- `words::lowest_free` meets its contract: what is left to search has the answer of the whole.
 use Rattle.words.proofs.Loops.{free_end, free_here, free_next}
-use Rattle.words.specs.Words.{free_from, lowest}
-use Rattle.kdb.specs.Calls.{L}
 use mathlib.Core.Path.{◌≡◌, refl, sym, ◌∙◌}
-use lib.ListN.{get_or}
-use Prim.Native.Nat.{◌≤◌, ◌-◌}
-use borrow.Author.Rules.{rules}
 use native.Mathlib.Omega.{arith}
 use Rattle.words.proofs.lowest_free.Goals as goal
 

@@ -1,5 +1,4 @@
 -- `words::point_key` meets its contract: the word at the place of the key.
-use borrow.Author.Rules.{rules}
 use Rattle.words.proofs.point_key.Goals as goal
 
 pub returns : goal.returns

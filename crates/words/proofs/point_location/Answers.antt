@@ -1,5 +1,4 @@
 -- `words::point_location` meets its contract: the word at the place of the location.
-use borrow.Author.Rules.{rules}
 use Rattle.words.proofs.point_location.Goals as goal
 
 pub returns : goal.returns

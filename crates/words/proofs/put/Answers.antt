@@ -1,8 +1,6 @@
 -- `words::put` meets its contract: a store past the end does nothing.
 use lib.Seq.{set_out}
 use mathlib.Core.Path.{sym}
-use Prim.Native.Nat.{◌-◌}
-use borrow.Author.Rules.{rules}
 use Rattle.words.proofs.put.Goals as goal
 
 pub returns-else-at-x : goal.returns-else-at-x

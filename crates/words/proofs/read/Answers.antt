@@ -1,5 +1,4 @@
 -- `words::read` meets its contract: the word at a place within the pool.
-use borrow.Author.Rules.{rules}
 use native.Mathlib.Omega.{arith}
 use mathlib.Core.Path.{refl}
 use Rattle.words.proofs.read.Goals as goal

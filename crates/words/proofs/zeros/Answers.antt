@@ -3,7 +3,6 @@ use Rattle.words.proofs.Loops.{zero_clamped}
 use mathlib.Core.Path.{◌∙◌}
 use mathlib.Core.Bool.{true}
 use Prim.Native.Nat.{◌-◌}
-use borrow.Author.Rules.{rules}
 use native.Mathlib.Omega.{arith}
 use Rattle.words.proofs.zeros.Goals as goal
 

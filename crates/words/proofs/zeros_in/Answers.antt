@@ -1,10 +1,6 @@
 -- `words::zeros_in` meets its contract: what is left to test, with the flag, gives what the whole gives.
 use Rattle.words.proofs.Loops.{all_end, all_next}
-use Rattle.words.specs.Words.{zero_at, all_zero}
-use Rattle.words.specs.Loops.{all_by}
-use mathlib.Core.Path.{◌≡◌, refl}
-use Prim.Native.Nat.{◌-◌}
-use borrow.Author.Rules.{rules}
+use mathlib.Core.Path.{refl}
 use native.Mathlib.Omega.{arith}
 use Rattle.words.proofs.zeros_in.Goals as goal
 
