@@ -4,7 +4,7 @@ set -eu
 cd "$(dirname "$0")/.."
 . tests/x86-64.inc
 tools rt make cc c++ run
-rt staticlib export
+tools/build library >/dev/null
 "$CC" -std=c99 -Wall -Wextra -Wpedantic -Werror -fsyntax-only -x c include/korytanka.h
 if command -v "$CXX" >/dev/null 2>&1; then
   "$CXX" -std=c++11 -Wall -Wextra -Wpedantic -Werror -fsyntax-only -x c++ include/korytanka.h

@@ -6,8 +6,8 @@ set -eu
 cd "$(dirname "$0")/.."
 . tests/x86-64.inc
 tools rt cc run cargo
-rt staticlib export
-rt check korytanka
+tools/build library >/dev/null
+tools/build program >/dev/null
 (cd rust && "$CARGO" build --release --offline --quiet -p compare)
 set -- --program target/bin/korytanka "$@"
 if [ -n "$RUN_X86_64" ]; then

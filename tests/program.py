@@ -121,7 +121,7 @@ def much_output():
 
 
 def closed_output():
-    """Nobody reads the answers any more: the program ends though its input stays open, by the signal or by the failed write."""
+    """Nobody reads the answers any more: the program ends though its input stays open, by the failed write. It ignores SIGPIPE itself."""
     for pipes in (signal.SIG_DFL, signal.SIG_IGN):
         process = start(restore_signals=False, preexec_fn=lambda: signal.signal(signal.SIGPIPE, pipes))
         process.stdin.write(b"00020010\n")
@@ -132,7 +132,7 @@ def closed_output():
         except BrokenPipeError:
             pass
         code = process.wait(LIMIT)
-        assert code == (-signal.SIGPIPE if pipes == signal.SIG_DFL else 0), f"exit {code}"
+        assert code == 0, f"exit {code}"
 
 
 def command():
@@ -149,9 +149,11 @@ def command_without():
     """Without rt, where the proof fails, and without the emulator on Arm, it says so and runs nothing."""
     with tempfile.TemporaryDirectory() as folder:
         shutil.copy(COMMAND, folder)
+        for made in ("tools", "crates/korytanka", "bin"):
+            (pathlib.Path(folder) / made).mkdir(parents=True)
+        shutil.copy(ROOT / "tools/build", pathlib.Path(folder) / "tools")
         tools = pathlib.Path(folder) / "bin"
-        tools.mkdir()
-        for tool in ("bash", "env", "dirname", "readlink", "find", "grep", "touch"):
+        for tool in ("bash", "env", "dirname", "readlink", "find", "grep", "touch", "mkdir", "tee", "cp"):
             (tools / tool).symlink_to(shutil.which(tool))
 
         def fake(tool, does):
@@ -175,7 +177,7 @@ def command_without():
 
 def main():
     if not PROGRAM.exists():
-        sys.exit(f"missing: {PROGRAM}; rt check korytanka makes it")
+        sys.exit(f"missing: {PROGRAM}; tools/build program makes it")
     tries = (line_by_line, byte_by_byte, last_line, in_pieces, much_output, closed_output, command, command_without)
     for one in tries:
         one()

@@ -4,4 +4,5 @@ set -eu
 cd "$(dirname "$0")/.."
 . tests/x86-64.inc
 tools rt python3 run
+tools/build program >/dev/null
 exec python3 tests/program.py

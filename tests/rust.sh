@@ -5,7 +5,7 @@ set -eu
 cd "$(dirname "$0")/.."
 . tests/x86-64.inc
 tools rt cc run cargo
-rt staticlib export
+tools/build library >/dev/null
 cd rust
 if [ -n "$RUN_X86_64" ]; then
   # The second program does not need the library: its tests are compiled for this machine, the others run in the emulator.

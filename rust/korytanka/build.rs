@@ -9,7 +9,7 @@ fn main() {
     println!("cargo:rerun-if-changed={}", library.display());
     if !library.exists() {
         eprintln!("missing: target/staticlib/libexport.a, the proved library");
-        eprintln!("run `rt staticlib export` in the repository's root, then cargo again");
+        eprintln!("run `tools/build library` in the repository's root, then cargo again");
         exit(1);
     }
     println!("cargo:rustc-link-search=native={}", folder.display());
