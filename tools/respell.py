@@ -15,7 +15,7 @@ import re
 import sys
 
 CHAR = r"[^\s(){}\[\];,.«»\\λ`\"]"
-HEAD = re.compile(r"^(\s*)((?:abbrev |unfoldable |pub )*)(" + CHAR + r"+)((?: " + CHAR + r"+)*) :(?=\s|$)")
+HEAD = re.compile(r"^(\s*)((?:abbrev |unfoldable |pub )*)(" + CHAR + r"+)((?: (?:\{[^}]*\}|" + CHAR + r"+))*) :(?=\s|$)")
 WORDS = {"let", "in", "--", "where", "open", "use", "module", "data", "record", "mod"}
 
 # Lemmas that the kit's script brought to the name of a definition: the crate that states them, and the name there.
@@ -35,7 +35,9 @@ def declared(files):
         for line in open(path, encoding="utf-8"):
             m = HEAD.match(line.rstrip("\n"))
             if m and m.group(3) not in WORDS and not re.search(r" : tie\.", line):
-                names[m.group(3)].add(path)
+                # a line may declare several names
+                for name in [m.group(3)] + re.findall(CHAR + "+", re.sub(r"\{[^}]*\}", "", m.group(4))):
+                    names[name].add(path)
     return names
 
 

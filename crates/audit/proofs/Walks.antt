@@ -18,7 +18,7 @@ use Rattle.kdb.proofs.Counts.{sum_append}
 use Rattle.audit.specs.declared.Seen.{Seen}
 use Rattle.pages.specs.Kinds.{sound_points, sound_regions}
 use Rattle.pages.proofs.Here.{regions_say}
-use Rattle.pages.proofs.Bits.{case, true-false}
+use Rattle.pages.proofs.Bits.{case, true_false}
 use Rattle.audit.specs.Walk.{Way, calm, entry_by_entry, fresh, leaf_of, page_walk}
 use Rattle.audit.proofs.Marks.{Marks, done, next, marks_append, marks_nil, marks_split, first}
 
@@ -103,9 +103,9 @@ module _ (L : ℕ) (w : List ℕ) where
   leaf_shows j r left h =
       case (sound_points L w j r)
       (λ e. case (ltb left (recs_at j))
-      (λ g. true-false (rw (e, g) at h))
+      (λ g. true_false (rw (e, g) at h))
       (λ g. let k : recs_at j ≤ left = ltb-false left (recs_at j) g in (of_true (sound_points L w j r) e, rw (e, g) (omega arith))))
-      (λ e. true-false (rw e at h))
+      (λ e. true_false (rw e at h))
 
   pub page_shows : (l : ℕ) → PageShows l
   unfolding page_walk
@@ -114,7 +114,7 @@ module _ (L : ℕ) (w : List ℕ) where
       (λ e. let f = fresh_says j m s e in
       let g = leaf_shows j r s.left (rw e at h) in
       rw e (record { calmly = f.calmly; good = g.0; marks = next f.some f.page f.clear done; count = omega (arith, g.1) }))
-      (λ e. true-false (rw e at h))
+      (λ e. true_false (rw e at h))
   page_shows (suc l) j r s m h =
       case (fresh L w j m s)
       (λ e. let f = fresh_says j m s e in
@@ -127,8 +127,8 @@ module _ (L : ℕ) (w : List ℕ) where
         marks = next f.some f.page f.clear g.marks;
         count = omega (arith, g.count, ap length (no_recs (view L w j) (regions_are j r t)));
       }))
-      (λ d. true-false (rw d at (rw e at h))))
-      (λ e. true-false (rw e at h))
+      (λ d. true_false (rw d at (rw e at h))))
+      (λ e. true_false (rw e at h))
 
   fresh_is : (j : ℕ) (m : List ℕ) (left : ℕ) → 1 ≤ j → j < pages_in L w → get_or m j 0 ≡ 0 → fresh L w j m (calm left) ≡ true
   fresh_is j m left z h g = rw (ne_eqb j 0 (λ e. omega arith), lt-ltb j (pages_in L w) h, eq-eqb (get_or m j 0) 0 g)

@@ -1,4 +1,4 @@
--- Regions inside a region r, no two with a common key, together are r exactly if their volumes add up to that of r, `volumes-tile`. The
+-- Regions inside a region r, no two with a common key, together are r exactly if their volumes add up to that of r, `fit_tiles`. The
 -- keys are counted over the grid of all keys below the upper ends of r: there a region's keys are its volume, and the number of
 -- regions that hold a key is nowhere above that of r, so that equal sums make them equal at every key.
 use mathlib.Core.List.{List, [], ◌∷◌}

@@ -174,9 +174,9 @@ module _ {ℓ} {A : Type ℓ} where
       cases (λ c. tally g (cond c (a ∷ only f l) (only f l)) + tally g (cond (not c) (a ∷ only (λ b. not (f b)) l) (only (λ b. not (f b)) l)) ≡ bit (g a) + tally g l)
       (f a) (λ y. omega arith) (λ n. omega arith)
 
-pub tally-map {ℓ κ} : {A : Type ℓ} {B : Type κ} (g : B → Bool) (f : A → B) (l : List A) → tally g (map f l) ≡ tally (λ a. g (f a)) l
-tally-map g f [] = refl
-tally-map g f (a ∷ l) = ap (λ n. bit (g (f a)) + n) (tally-map g f l)
+pub tally_map {ℓ κ} : {A : Type ℓ} {B : Type κ} (g : B → Bool) (f : A → B) (l : List A) → tally g (map f l) ≡ tally (λ a. g (f a)) l
+tally_map g f [] = refl
+tally_map g f (a ∷ l) = ap (λ n. bit (g (f a)) + n) (tally_map g f l)
 
 -- a number of the n from a on, and what is counted in lists joined
 pub many_up : (n a i : ℕ) → a ≤ i → i < a + n → 1 ≤ many i (up_from n a)
@@ -186,13 +186,13 @@ many_up (suc n) a i h g =
     (λ t. let ne : i ≡ a → ⊥ = λ e. T_not (eqb i a) t (of_true (eqb i a) (eq-eqb i a e)) in
     omega (arith, many_up n (suc a) i (omega arith) (omega arith)))
 
-pub tally-gather {ℓ} : {A : Type ℓ} (h : A → Bool) (g : ℕ → List A) (l : List ℕ) (i : ℕ) → 1 ≤ many i l → 1 ≤ tally h (g i) → 1 ≤ tally h (gather g l)
-tally-gather h g [] i k m = absurd (omega arith)
-tally-gather h g (a ∷ l) i k m =
+pub tally_gather {ℓ} : {A : Type ℓ} (h : A → Bool) (g : ℕ → List A) (l : List ℕ) (i : ℕ) → 1 ≤ many i l → 1 ≤ tally h (g i) → 1 ≤ tally h (gather g l)
+tally_gather h g [] i k m = absurd (omega arith)
+tally_gather h g (a ∷ l) i k m =
     let e = tally_append h (g a) (gather g l) in
     bool (eqb i a)
     (λ t. let q : tally h (g i) ≡ tally h (g a) = ap (λ j. tally h (g j)) (eqb→eq i a t) in omega arith)
-    (λ t. omega (arith, tally-gather h g l i (omega (arith, no_bit (eqb i a) (T_not (eqb i a) t))) m))
+    (λ t. omega (arith, tally_gather h g l i (omega (arith, no_bit (eqb i a) (T_not (eqb i a) t))) m))
 
 -- a test that every number of the list passes, at a number that stands there
 pub every_many : (f : ℕ → Bool) (l : List ℕ) → T (every f l) → (c : ℕ) → 1 ≤ many c l → T (f c)
@@ -248,8 +248,8 @@ up_from_once (suc n) a c =
     omega (arith, no_bit (eqb c a) (λ y. omega (arith, eqb→eq c a y)), up_from_once n (suc a) c))
     (λ t. omega (arith, nleb→lt 1 (many c (up_from n (suc a))) t, bit_most (eqb c a)))
 
-pub tally-take {ℓ} : {A : Type ℓ} (g : A → Bool) (n : ℕ) (l : List A) → tally g (take n l) ≤ tally g l
-tally-take g n l =
+pub tally_take {ℓ} : {A : Type ℓ} (g : A → Bool) (n : ℕ) (l : List A) → tally g (take n l) ≤ tally g l
+tally_take g n l =
     let e : tally g l ≡ tally g (take n l) + tally g (drop n l) = ap (tally g) (sym (take-append-drop n l)) ∙ tally_append g (take n l) (drop n l) in
     omega arith
 
@@ -261,9 +261,9 @@ many_only f c l h =
     subst (λ a. T (f a)) (sym e) (every_in f i.0 (only f l) (every_only f (λ _. true) f (λ a t _. t) l (in_every (λ _. true) l (λ _ _. tt))) i.2)
 
 -- a test counted in two parts by another
-pub tally-parts {ℓ} : {A : Type ℓ} (f g : A → Bool) (l : List A) → tally f l ≡ tally (λ a. f a && g a) l + tally (λ a. f a && not (g a)) l
-tally-parts f g [] = refl
-tally-parts f g (a ∷ l) = omega (arith, go (f a) (g a), tally-parts f g l)
+pub tally_parts {ℓ} : {A : Type ℓ} (f g : A → Bool) (l : List A) → tally f l ≡ tally (λ a. f a && g a) l + tally (λ a. f a && not (g a)) l
+tally_parts f g [] = refl
+tally_parts f g (a ∷ l) = omega (arith, go (f a) (g a), tally_parts f g l)
   where
     go : (b c : Bool) → bit b ≡ bit (b && c) + bit (b && not c)
     go true true = refl

@@ -18,9 +18,9 @@ use Rattle.kdb.specs.Tiling.{Tiles, holders}
 use Rattle.kdb.specs.Pages.{regions_per, points_per}
 use Rattle.kdb.specs.Shape.{differ, RegionPage, Shaped, ShapedF, ShapedS, Numbered, WellFormed}
 use Rattle.kdb.specs.Steps.{free_of, after_chosen, Up, failed, fits, parts, UpF, failed_f, kept, wider, size, join_f, parted, enter, behind, chosen, settle_node, grow, grow_f, new_root, topped, first, placed}
-use Rattle.kdb.proofs.Tests.{and_l, and_r, and_i, bool, by-case, is_true, is_false, to_bit, no_bit}
+use Rattle.kdb.proofs.Tests.{and_l, and_r, and_i, bool, by_case, is_true, is_false, to_bit, no_bit}
 use Rattle.kdb.proofs.Lists.{every_append, same_eq, same_refl}
-use Rattle.kdb.proofs.Counts.{tally_append, In, in_head, in_tail, every_in, tally_only, tally-take, many_only, up_from_in, up_from_once}
+use Rattle.kdb.proofs.Counts.{tally_append, In, in_head, in_tail, every_in, tally_only, tally_take, many_only, up_from_in, up_from_once}
 use Rattle.kdb.proofs.Tiling
 use Rattle.kdb.proofs.Tiling.{tiles_counted, counted_tiles, Inside, on, part, part_solid, two_hold, two_tile}
 use Rattle.kdb.proofs.Box.{within_length}
@@ -433,7 +433,7 @@ module _ (k R P : ℕ) where
       record {
         fair = (λ y. (v y).fair, λ y. (w y).fair);
         made = made (within b q.key) (λ y. (v y).made) (λ y. (w y).made);
-        fit = by-case (λ o. BecameF k R P (fcons b t f) q free n o) (within b q.key) (entered b (grown k R P t q free) f) (passed b t (grown_f k R P f q free))
+        fit = by_case (λ o. BecameF k R P (fcons b t f) q free n o) (within b q.key) (entered b (grown k R P t q free) f) (passed b t (grown_f k R P f q free))
             (λ y. entered_fit b t f q free n (grown k R P t q free) (v y).fit hs) (λ y. passed_fit b t f q free n (grown_f k R P f q free) h (w y).fit);
       }
     where
@@ -477,10 +477,10 @@ pub numbered_more : (N : ℕ) (ps qs : List ℕ) (n : ℕ) → Numbered N ps →
 numbered_more N ps qs n h e =
     record {
       inside = λ c i. bool (leb 1 (many c ps)) (λ t. h.inside c (leb→le 1 (many c ps) t))
-          (λ t. let f = free_in_lem N ps c (omega (arith, nleb→lt 1 (many c ps) t, e c, tally-take (eqb c) n (free_of N ps))) in (f.0, f.1));
+          (λ t. let f = free_in_lem N ps c (omega (arith, nleb→lt 1 (many c ps) t, e c, tally_take (eqb c) n (free_of N ps))) in (f.0, f.1));
       once = λ c. bool (leb 1 (many c (free_of N ps)))
-          (λ t. omega (arith, (free_in_lem N ps c (leb→le 1 (many c (free_of N ps)) t)).2, e c, tally-take (eqb c) n (free_of N ps), free_once N ps c))
-          (λ t. omega (arith, nleb→lt 1 (many c (free_of N ps)) t, e c, tally-take (eqb c) n (free_of N ps), h.once c));
+          (λ t. omega (arith, (free_in_lem N ps c (leb→le 1 (many c (free_of N ps)) t)).2, e c, tally_take (eqb c) n (free_of N ps), free_once N ps c))
+          (λ t. omega (arith, nleb→lt 1 (many c (free_of N ps)) t, e c, tally_take (eqb c) n (free_of N ps), h.once c));
     }
 
 -- the tree under its root, a new one if the root was parted, and the pages that all this claims

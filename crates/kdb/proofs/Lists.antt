@@ -88,8 +88,8 @@ module _ {ℓ} {A : Type ℓ} (P : A → Type 0) where
   each_take (suc n) (a ∷ l) h = (h.0, each_take n l h.1)
 
 -- the first n, without the first m of them
-pub drop-take {ℓ} : {A : Type ℓ} (m n : ℕ) (l : List A) → drop m (take n l) ≡ take (n - m) (drop m l)
-drop-take zero n l = rw (sub-zero n)
-drop-take (suc m) zero l = let z : 0 - suc m ≡ 0 = omega arith in rw z
-drop-take (suc m) (suc n) [] = sym (take-nil (suc n - suc m))
-drop-take (suc m) (suc n) (a ∷ l) = let z : suc n - suc m ≡ n - m = omega arith in rw z (drop-take m n l)
+pub drop_take {ℓ} : {A : Type ℓ} (m n : ℕ) (l : List A) → drop m (take n l) ≡ take (n - m) (drop m l)
+drop_take zero n l = rw (sub-zero n)
+drop_take (suc m) zero l = let z : 0 - suc m ≡ 0 = omega arith in rw z
+drop_take (suc m) (suc n) [] = sym (take-nil (suc n - suc m))
+drop_take (suc m) (suc n) (a ∷ l) = let z : suc n - suc m ≡ n - m = omega arith in rw z (drop_take m n l)

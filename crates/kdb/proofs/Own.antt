@@ -16,7 +16,7 @@ use Rattle.kdb.specs.Pages.{Ent, blank, regions, ents_in, in_use}
 use Rattle.kdb.specs.Pool.{domains, root_at, pages_in, numbers, view, naming, own_region}
 use Rattle.kdb.specs.Print.{ents, or_page, page_of, page_of_f}
 use Rattle.kdb.proofs.Tests.{self, to_bit, of_true, is_true}
-use Rattle.kdb.proofs.Counts.{tally_append, many_append, many_up, tally-gather}
+use Rattle.kdb.proofs.Counts.{tally_append, many_append, many_up, tally_gather}
 use Rattle.kdb.proofs.Views.{at, miss, among, or_first, page_in, page_out}
 use Rattle.kdb.proofs.Stands.{Stands}
 
@@ -58,13 +58,13 @@ alone t f j b r once e =
     among j (pages_f f) (λ i. own_out t r j (omega arith))
     (λ z. absurd (let y = own_out_f f j z in let q : ◌≡◌ {A = ℕ} 0 1 = cc in omega arith))
 
-no-some {ℓ} : {C : Type ℓ} (b : Box) → none ≡ some b → C
-no-some b e = absurd (let q : ◌≡◌ {A = ℕ} 0 1 = cc in omega arith)
+no_some {ℓ} : {C : Type ℓ} (b : Box) → none ≡ some b → C
+no_some b e = absurd (let q : ◌≡◌ {A = ℕ} 0 1 = cc in omega arith)
 
 -- nor is it the page above them
 not_top : (p : ℕ) (f : Forest) (j : ℕ) (b : Box) → bit (eqb j p) + many j (pages_f f) ≤ 1 → own_in_f f j ≡ some b → eqb j p ≡ false
 not_top p f j b once e =
-    among j (pages_f f) (λ i. miss j p 0 (omega arith)) (λ z. no-some b (sym (own_out_f f j z) ∙ e))
+    among j (pages_f f) (λ i. miss j p 0 (omega arith)) (λ z. no_some b (sym (own_out_f f j z) ∙ e))
 
 module _ (j : ℕ) where
   -- what a page of the tree names is what stands there
@@ -81,7 +81,7 @@ module _ (j : ℕ) where
 
   mutual
     named_own : (t : Tree) (r b : Box) → ((c : ℕ) → many c (pages t) ≤ 1) → (i : ℕ) → naming j (ents_in (page_of t i)) ≡ some b → own_in t r j ≡ some b
-    named_own (leaf p d rs) r b once i e = at i p (λ q. no-some b (rw (eq-eqb i p q) at e)) (λ q. no-some b (rw q at e))
+    named_own (leaf p d rs) r b once i e = at i p (λ q. no_some b (rw (eq-eqb i p q) at e)) (λ q. no_some b (rw q at e))
     named_own (node p d f) r b once i e =
         let o : own_in_f f j ≡ some b =
         at i p (λ q. let u : naming j (ents f) ≡ some b = rw (eq-eqb i p q) at e in named_ents f b (λ c. omega (arith, once c)) u)
@@ -139,7 +139,7 @@ module _ (j : ℕ) where
   naming_none : (l : List Ent) → naming j l ≡ none → names l ≡ 0
   naming_none [] e = refl
   naming_none (a ∷ l) e =
-      at j a.child (λ q. no-some a.box (sym (rw (eq-eqb j a.child q) at e))) (λ q. rw q (omega (arith, naming_none l (rw q at e))))
+      at j a.child (λ q. no_some a.box (sym (rw (eq-eqb j a.child q) at e))) (λ q. rw q (omega (arith, naming_none l (rw q at e))))
 
   naming_all : (g : ℕ → List Ent) (z : Option Box) → ((i : ℕ) (b : Box) → naming j (g i) ≡ some b → z ≡ some b) → (l : List ℕ) → 1 ≤ names (gather g l) → naming j (gather g l) ≡ z
   naming_all g z same [] h = absurd (omega arith)
@@ -161,7 +161,7 @@ own_region_lem L w (some t) h j =
     let c = h.formed.numbered.inside n.0 n.1 in
     rw e (naming_all j (λ i. ents_in (view L w i)) (own_in t (whole (domains w)) j)
     (λ i b m. named_own j t (whole (domains w)) b h.formed.numbered.once i (subst (λ v. naming j (ents_in v) ≡ some b) (h.views i) m)) (numbers L w)
-    (tally-gather (λ e. eqb j e.child) (λ i. ents_in (view L w i)) (numbers L w) n.0 (many_up (pages_in L w - 1) 1 n.0 c.0 (omega (arith, c.0, c.1)))
+    (tally_gather (λ e. eqb j e.child) (λ i. ents_in (view L w i)) (numbers L w) n.0 (many_up (pages_in L w - 1) 1 n.0 c.0 (omega (arith, c.0, c.1)))
     (subst (λ v. 1 ≤ tally (λ e. eqb j e.child) (ents_in v)) (sym (h.views n.0)) n.2)))))
     (λ z. let e : view L w j ≡ blank = h.views j ∙ page_out t j z in rw e (sym (own_out t (whole (domains w)) j z)))
   where

@@ -13,7 +13,7 @@ use Rattle.kdb.specs.Box.{Box, sides}
 use Rattle.kdb.specs.Tree.{Rec}
 use Rattle.kdb.specs.Pages.{Ent, Page, blank, points, regions, points_per, regions_per, recs_in, ents_in, words_r, words_e, print_page, read_recs, read_ents, read_page, page}
 use Rattle.kdb.proofs.Tests.{bool}
-use Rattle.kdb.proofs.Lists.{each_map, drop-take, length_gather}
+use Rattle.kdb.proofs.Lists.{each_map, drop_take, length_gather}
 use Rattle.kdb.proofs.Stores.{length_pad, pad_tail}
 
 -- n entries of d words each, one read by f from its first word on
@@ -38,7 +38,7 @@ module _ {ℓ} {A : Type ℓ} (d : ℕ) (f : List ℕ → A) where
   reads_take same zero m ws h = refl
   reads_take same (suc n) m ws h =
       let q = suc-mul n d in
-      ap₂ ◌∷◌ (same ws m (omega arith)) (ap (reads d f n) (drop-take d m ws) ∙ reads_take same n (m - d) (drop d ws) (omega arith))
+      ap₂ ◌∷◌ (same ws m (omega arith)) (ap (reads d f n) (drop_take d m ws) ∙ reads_take same n (m - d) (drop d ws) (omega arith))
 
   reads_each : (ok : A → Type 0) → ((ws : List ℕ) → d ≤ length ws → ok (f ws)) → (n : ℕ) (ws : List ℕ) → n * d ≤ length ws → Each ok (reads d f n ws)
   reads_each ok is zero ws h = tt
@@ -119,7 +119,7 @@ module _ (k n : ℕ) where
     where
       same : (ws : List ℕ) (m : ℕ) → 2 * k + 1 ≤ m → ent_of k (take m ws) ≡ ent_of k ws
       same ws m l =
-          let u : take k (drop k (take m ws)) ≡ take k (drop k ws) = ap (take k) (drop-take k m ws) ∙ take-take k (m - k) (drop k ws) (omega arith) in
+          let u : take k (drop k (take m ws)) ≡ take k (drop k ws) = ap (take k) (drop_take k m ws) ∙ take-take k (m - k) (drop k ws) (omega arith) in
           ap₂ (λ (a : Box) (b : ℕ). record { box = a; child = b }) (ap₂ sides (take-take k m ws (omega arith)) u) (get_or-take m ws (2 * k) 0 (omega arith))
 
   pub recs_keys : (ws : List ℕ) → n * (k + 1) ≤ length ws → Each (λ r. length r.key ≡ k) (read_recs k n ws)

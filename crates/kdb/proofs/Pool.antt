@@ -20,7 +20,7 @@ use Rattle.kdb.specs.Shape.{differ, PointPage, RegionPage, Shaped, ShapedF, poin
 use Rattle.kdb.specs.Pages.{Ent, Page, blank, points, regions, regions_per, points_per, domain, recs_in, ents_in, boxes_in, is_points, is_regions, in_use, print_page, read_recs, read_ents, read_page, page}
 use Rattle.kdb.specs.Pool.{domains, root_at, levels_at, count_at, pages_in, good_length, good_header, GoodLength, GoodHeader, view, numbers, reached_from, reached, Paths, Sound}
 use Rattle.kdb.specs.Print.{ents, page_of, page_at, header_of, forest, printed, tree_at, state_of, sound}
-use Rattle.kdb.proofs.Tests.{bool, and_l, and_r, and_i, is_true, is_false, of_true, of_bit, self, to_bit, cond-case}
+use Rattle.kdb.proofs.Tests.{bool, and_l, and_r, and_i, is_true, is_false, of_true, of_bit, self, to_bit, cond_case}
 use Rattle.kdb.proofs.Lists.{same_eq, same_refl, every_each, each_every, each_two}
 use Rattle.kdb.proofs.Counts.{sum_same, sum_none}
 use Rattle.kdb.proofs.Tiling.{tiles_iff}
@@ -390,10 +390,10 @@ read_keys : (L i : ℕ) (ws : List ℕ) → length ws ≡ L → length (recs_in 
 read_keys L i ws long =
     let rs = read_recs i (get_or ws 1 0) (drop 4 ws) in
     let es = read_ents i (get_or ws 1 0) (drop 4 ws) in
-    cond-case (λ v. length (recs_in v) ≤ points_per L i → Each (λ r. length r.key ≡ i) (recs_in v)) (eqb (get_or ws 0 0) 1)
+    cond_case (λ v. length (recs_in v) ≤ points_per L i → Each (λ r. length r.key ≡ i) (recs_in v)) (eqb (get_or ws 0 0) 1)
     (regions (get_or ws 2 0) es) (cond (eqb (get_or ws 0 0) 2) (points (get_or ws 2 0) rs) blank)
     (λ h. tt)
-    (cond-case (λ v. length (recs_in v) ≤ points_per L i → Each (λ r. length r.key ≡ i) (recs_in v)) (eqb (get_or ws 0 0) 2) (points (get_or ws 2 0) rs) blank
+    (cond_case (λ v. length (recs_in v) ≤ points_per L i → Each (λ r. length r.key ≡ i) (recs_in v)) (eqb (get_or ws 0 0) 2) (points (get_or ws 2 0) rs) blank
     (λ h. let e = length_recs i (get_or ws 1 0) (drop 4 ws) in
     recs_keys i (get_or ws 1 0) (drop 4 ws) (let f = points_fit L i (get_or ws 1 0) (subst (λ n. n ≤ points_per L i) e h) in let g = length-drop 4 ws in omega arith))
     (λ h. tt))

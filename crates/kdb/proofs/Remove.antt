@@ -14,9 +14,9 @@ use Rattle.kdb.specs.Tiling.{holders}
 use Rattle.kdb.specs.Pages.{regions_per, points_per}
 use Rattle.kdb.specs.Shape.{differ, RegionPage, Shaped, ShapedF, Numbered, WellFormed}
 use Rattle.kdb.specs.Steps.{without, remove, remove_f, removed}
-use Rattle.kdb.proofs.Tests.{and_l, and_r, and_i, bool, by-case, to_bit, no_bit, bit_eq, bit_most}
+use Rattle.kdb.proofs.Tests.{and_l, and_r, and_i, bool, by_case, to_bit, no_bit, bit_eq, bit_most}
 use Rattle.kdb.proofs.Lists.{same_eq, same_refl}
-use Rattle.kdb.proofs.Counts.{found, tally_append, In, every_in, tally-parts}
+use Rattle.kdb.proofs.Counts.{found, tally_append, In, every_in, tally_parts}
 use Rattle.kdb.proofs.Tiling.{tiles_counted}
 use Rattle.kdb.proofs.Grow.{at_levels}
 
@@ -63,29 +63,29 @@ mutual
   remove_f_pages : (f : Forest) (p : Key) → pages_f (remove_f f p) ≡ pages_f f
   remove_f_pages fnil p = refl
   remove_f_pages (fcons b t f) p =
-      by-case (λ g. pages_f g ≡ pages t ++ pages_f f) (within b p) (fcons b (remove t p) f) (fcons b t (remove_f f p))
+      by_case (λ g. pages_f g ≡ pages t ++ pages_f f) (within b p) (fcons b (remove t p) f) (fcons b t (remove_f f p))
       (λ _. ap (λ l. l ++ pages_f f) (remove_pages t p)) (λ _. ap (λ l. pages t ++ l) (remove_f_pages f p))
 
 pub remove_boxes : (f : Forest) (p : Key) → boxes (remove_f f p) ≡ boxes f
 remove_boxes fnil p = refl
 remove_boxes (fcons b t f) p =
-    by-case (λ g. boxes g ≡ b ∷ boxes f) (within b p) (fcons b (remove t p) f) (fcons b t (remove_f f p)) (λ _. refl) (λ _. ap (λ bs. b ∷ bs) (remove_boxes f p))
+    by_case (λ g. boxes g ≡ b ∷ boxes f) (within b p) (fcons b (remove t p) f) (fcons b t (remove_f f p)) (λ _. refl) (λ _. ap (λ bs. b ∷ bs) (remove_boxes f p))
 
 -- a point page less a record
 without_most : (g : Rec → Bool) (p : Key) (rs : List Rec) → tally g (without p rs) ≤ tally g rs
 without_most g p [] = omega arith
 without_most g p (r ∷ rs) =
-    by-case (λ l. tally g l ≤ bit (g r) + tally g rs) (same p r.key) rs (r ∷ without p rs) (λ _. omega arith) (λ _. omega (arith, without_most g p rs))
+    by_case (λ l. tally g l ≤ bit (g r) + tally g rs) (same p r.key) rs (r ∷ without p rs) (λ _. omega arith) (λ _. omega (arith, without_most g p rs))
 
 without_length : (p : Key) (rs : List Rec) → length (without p rs) ≤ length rs
 without_length p [] = omega arith
 without_length p (r ∷ rs) =
-    by-case (λ l. length l ≤ suc (length rs)) (same p r.key) rs (r ∷ without p rs) (λ _. omega arith) (λ _. omega (arith, without_length p rs))
+    by_case (λ l. length l ≤ suc (length rs)) (same p r.key) rs (r ∷ without p rs) (λ _. omega arith) (λ _. omega (arith, without_length p rs))
 
 without_every : (g : Rec → Bool) (p : Key) (rs : List Rec) → T (every g rs) → T (every g (without p rs))
 without_every g p [] t = tt
 without_every g p (r ∷ rs) t =
-    by-case (λ l. T (every g l)) (same p r.key) rs (r ∷ without p rs) (λ _. and_r (g r) _ t)
+    by_case (λ l. T (every g l)) (same p r.key) rs (r ∷ without p rs) (λ _. and_r (g r) _ t)
     (λ _. and_i (g r) _ (and_l (g r) _ t) (without_every g p rs (and_r (g r) _ t)))
 
 without_differ : (p : Key) (rs : List Rec) → T (differ rs) → T (differ (without p rs))
@@ -93,7 +93,7 @@ without_differ p [] t = tt
 without_differ p (r ∷ rs) t =
     let n : Rec → Bool = λ q. same r.key q.key in
     let e : tally n (without p rs) ≡ 0 = omega (arith, eqb→eq (tally n rs) 0 (and_l (eqb (tally n rs) 0) _ t), without_most n p rs) in
-    by-case (λ l. T (differ l)) (same p r.key) rs (r ∷ without p rs) (λ _. and_r (eqb (tally n rs) 0) _ t)
+    by_case (λ l. T (differ l)) (same p r.key) rs (r ∷ without p rs) (λ _. and_r (eqb (tally n rs) 0) _ t)
     (λ _. and_i (eqb (tally n (without p rs)) 0) _ (rw e tt) (without_differ p rs (and_r (eqb (tally n rs) 0) _ t)))
 
 -- the record with these keys goes, and no other
@@ -111,7 +111,7 @@ gone_right p a c c' x = record { rec = x.rec; keyed = x.keyed; counts = λ g. si
 without_gone : (p : Key) (rs : List Rec) → 1 ≤ tally (λ r. same p r.key) rs → Gone p rs (without p rs)
 without_gone p [] h = absurd (omega arith)
 without_gone p (r ∷ rs) h =
-    by-case (λ l. Gone p (r ∷ rs) l) (same p r.key) rs (r ∷ without p rs)
+    by_case (λ l. Gone p (r ∷ rs) l) (same p r.key) rs (r ∷ without p rs)
     (λ y. record { rec = r; keyed = y; counts = λ g. omega arith })
     (λ y. let i = without_gone p rs (omega (arith, no_bit (same p r.key) (T_not (same p r.key) y))) in
     record { rec = i.rec; keyed = i.keyed; counts = λ g. omega (arith, i.counts g) })
@@ -119,7 +119,7 @@ without_gone p (r ∷ rs) h =
 without_same : (p : Key) (rs : List Rec) → tally (λ r. same p r.key) rs ≡ 0 → without p rs ≡ rs
 without_same p [] h = refl
 without_same p (r ∷ rs) h =
-    by-case (λ l. l ≡ r ∷ rs) (same p r.key) rs (r ∷ without p rs)
+    by_case (λ l. l ≡ r ∷ rs) (same p r.key) rs (r ∷ without p rs)
     (λ y. absurd (omega (arith, to_bit (same p r.key) y))) (λ y. ap (λ l. r ∷ l) (without_same p rs (omega arith)))
 
 mutual
@@ -131,7 +131,7 @@ mutual
   remove_f_same fnil p h = refl
   remove_f_same (fcons b t f) p h =
       let a = tally_append (λ r. same p r.key) (records t) (records_f f) in
-      by-case (λ g. records_f g ≡ records t ++ records_f f) (within b p) (fcons b (remove t p) f) (fcons b t (remove_f f p))
+      by_case (λ g. records_f g ≡ records t ++ records_f f) (within b p) (fcons b (remove t p) f) (fcons b t (remove_f f p))
       (λ _. ap (λ l. l ++ records_f f) (remove_same t p (omega arith))) (λ _. ap (λ l. records t ++ l) (remove_f_same f p (omega arith)))
 
 module _ (k R P : ℕ) (p : Key) where
@@ -152,7 +152,7 @@ module _ (k R P : ℕ) (p : Key) where
     remove_f_shaped : (f : Forest) (n : ℕ) → ShapedF k R P f n → ShapedF k R P (remove_f f p) n
     remove_f_shaped fnil n h = tt
     remove_f_shaped (fcons b t f) n h =
-        by-case (λ g. ShapedF k R P g n) (within b p) (fcons b (remove t p) f) (fcons b t (remove_f f p))
+        by_case (λ g. ShapedF k R P g n) (within b p) (fcons b (remove t p) f) (fcons b t (remove_f f p))
         (λ _. (remove_shaped t n b h.0, h.1)) (λ _. (h.0, remove_f_shaped f n h.1))
 
   mutual
@@ -169,7 +169,7 @@ module _ (k R P : ℕ) (p : Key) where
         let a = tally_append (λ q. same p q.key) (records t) (records_f f) in
         let ft = tree_once k R P p t n b h.0 in
         let ff = forest_once k R P p f n h.1 in
-        by-case (λ g. Gone p (records t ++ records_f f) (records_f g)) (within b p) (fcons b (remove t p) f) (fcons b t (remove_f f p))
+        by_case (λ g. Gone p (records t ++ records_f f) (records_f g)) (within b p) (fcons b (remove t p) f) (fcons b t (remove_f f p))
         (λ y. gone_left p (records t) (records (remove t p)) (records_f f) (remove_gone t n b h.0 (omega (arith, to_bit (within b p) y))))
         (λ y. gone_right p (records t) (records_f f) (records_f (remove_f f p)) (remove_f_gone f n h.1 (omega arith) (omega (arith, no_bit (within b p) (T_not (within b p) y)))))
 
@@ -179,7 +179,7 @@ gone_is p rs rs' r g l m e x =
     let passing : Rec → Bool = λ q. same p q.key && g q in
     let failing : Rec → Bool = λ q. same p q.key && not (g q) in
     let kr : T (same p r.key) = subst (λ q. T (same p q)) (sym e) (same_refl p) in
-    let both : tally passing rs + tally failing rs ≤ 1 = omega (arith, tally-parts (λ q. same p q.key) g rs) in
+    let both : tally passing rs + tally failing rs ≤ 1 = omega (arith, tally_parts (λ q. same p q.key) g rs) in
     bit_eq (g r) (g x.rec)
     (λ t. bool (g x.rec) (λ u. u) (λ n.
     absurd (omega (arith, m.counted passing (and_i (same p r.key) _ kr t), x.counts failing, to_bit (failing x.rec) (and_i (same p x.rec.key) _ x.keyed n)))))

@@ -19,7 +19,7 @@ use Rattle.kdb.specs.Shape.{differ, PointPage, RegionPage, Shaped, ShapedF}
 use Rattle.kdb.specs.Steps.{after_chosen, after_forced, Two, TwoF, deal, split, split_f}
 use Rattle.kdb.proofs.Tests.{and_l, and_r, and_i, bool, cases, to_bit}
 use Rattle.kdb.proofs.Counts.{tally_append, length_only, tally_most, in_head, every_only, tally_only, tally_halves}
-use Rattle.kdb.proofs.Tiling.{low, low_in, solid_of, tiles_counted, lies-case, Inside, on, part, keep, parts, part_within, part_solid, tiles_part}
+use Rattle.kdb.proofs.Tiling.{low, low_in, solid_of, tiles_counted, lies_case, Inside, on, part, keep, parts, part_within, part_solid, tiles_part}
 use Rattle.kdb.proofs.Cut.{parts_length, entry_in}
 
 -- the splitting domains after a split are below k
@@ -95,7 +95,7 @@ module _ (k d x : ℕ) where
           rt = keep_f false l b (right_part d x b) t (half k d x t false (after_forced k (dom t)) free) (half_f k d x f false (drop (if_across l (need d x t)) free));
           free = drop (if_across l (need d x t) + need_f d x f) free;
         }) in
-        lies-case P d x b
+        lies_case P d x b
         (λ _ i. rw (split_f_some f free (omega arith), zero-add))
         (λ _ _ i. rw (split_f_some f free (omega arith), zero-add))
         (λ _ _ i. rw (split_some t (after_forced k (dom t)) free (omega arith), split_f_some f (drop (need d x t) free) (omega (arith, length-drop (need d x t) free)), drop-drop))
@@ -112,7 +112,7 @@ module _ (k d x : ℕ) where
     split_f_none fnil free h = absurd (omega arith)
     split_f_none (fcons b t f) free h =
         let P : Lies → Type 0 = λ l. length free < if_across l (need d x t) + need_f d x f → deal k d x l b t (split k d x t (after_forced k (dom t)) free) (split_f k d x f) free ≡ none in
-        lies-case P d x b (λ _ i. rw (split_f_none f free (omega arith))) (λ _ _ i. rw (split_f_none f free (omega arith)))
+        lies_case P d x b (λ _ i. rw (split_f_none f free (omega arith))) (λ _ _ i. rw (split_f_none f free (omega arith)))
         (λ _ _ i. bool (leb (need d x t) (length free))
         (λ c. let j = leb→le (need d x t) (length free) c in rw (split_some t (after_forced k (dom t)) free j, split_f_none f (drop (need d x t) free) (omega (arith, length-drop (need d x t) free))))
         (λ c. rw (split_none t (after_forced k (dom t)) free (nleb→lt (need d x t) (length free) c))))
@@ -128,7 +128,7 @@ module _ (k d x : ℕ) where
     pub half_f_records : (f : Forest) (free : List ℕ) (g : Rec → Bool) → tally g (records_f (half_f k d x f true free)) + tally g (records_f (half_f k d x f false free)) ≡ tally g (records_f f)
     half_f_records fnil free g = refl
     half_f_records (fcons b t f) free g =
-        lies-case (λ l. tally g (records_f (keep_f true l b (left_part d x b) t (half k d x t true (after_forced k (dom t)) free) (half_f k d x f true (drop (if_across l (need d x t)) free))))
+        lies_case (λ l. tally g (records_f (keep_f true l b (left_part d x b) t (half k d x t true (after_forced k (dom t)) free) (half_f k d x f true (drop (if_across l (need d x t)) free))))
         + tally g (records_f (keep_f false l b (right_part d x b) t (half k d x t false (after_forced k (dom t)) free) (half_f k d x f false (drop (if_across l (need d x t)) free)))) ≡ tally g (records t ++ records_f f)) d x b
         (λ _. simp tally_append (omega (arith, half_f_records f free g)))
         (λ _ _. simp tally_append (omega (arith, half_f_records f free g)))
@@ -150,7 +150,7 @@ module _ (k d x : ℕ) where
         → tally g (pages_f (keep_f true l b (left_part d x b) t (half k d x t true (after_forced k (dom t)) free) (half_f k d x f true (drop (if_across l (need d x t)) free))))
         + tally g (pages_f (keep_f false l b (right_part d x b) t (half k d x t false (after_forced k (dom t)) free) (half_f k d x f false (drop (if_across l (need d x t)) free))))
         ≡ tally g (pages t ++ pages_f f) + tally g (take (if_across l (need d x t) + need_f d x f) free) in
-        lies-case P d x b
+        lies_case P d x b
         (λ _ i. simp (tally_append, take-add) (omega (arith, half_f_pages f free g (omega arith))))
         (λ _ _ i. simp (tally_append, take-add) (omega (arith, half_f_pages f free g (omega arith))))
         (λ _ _ i. simp (tally_append, take-add)
@@ -247,10 +247,10 @@ module _ (k R P : ℕ) where
       pub shaped_f_half : (f : Forest) (n : ℕ) (s : Bool) (free : List ℕ) → ShapedF k R P f n → ShapedF k R P (half_f k d x f s free) n
       shaped_f_half fnil n s free h = tt
       shaped_f_half (fcons b t f) n true free h =
-          lies-case (λ l. ShapedF k R P (keep_f true l b (left_part d x b) t (half k d x t true (after_forced k (dom t)) free) (half_f k d x f true (drop (if_across l (need d x t)) free))) n) d x b
+          lies_case (λ l. ShapedF k R P (keep_f true l b (left_part d x b) t (half k d x t true (after_forced k (dom t)) free) (half_f k d x f true (drop (if_across l (need d x t)) free))) n) d x b
           (λ _. (h.0, shaped_f_half f n true free h.1)) (λ _ _. shaped_f_half f n true free h.1)
           (λ u l. (shaped_half t n true (after_forced k (dom t)) free b h.0 (forced_below k (dom t) (shaped_dom t n b h.0)) (record { low = l; high = u }), shaped_f_half f n true (drop (need d x t) free) h.1))
       shaped_f_half (fcons b t f) n false free h =
-          lies-case (λ l. ShapedF k R P (keep_f false l b (right_part d x b) t (half k d x t false (after_forced k (dom t)) free) (half_f k d x f false (drop (if_across l (need d x t)) free))) n) d x b
+          lies_case (λ l. ShapedF k R P (keep_f false l b (right_part d x b) t (half k d x t false (after_forced k (dom t)) free) (half_f k d x f false (drop (if_across l (need d x t)) free))) n) d x b
           (λ _. shaped_f_half f n false free h.1) (λ _ _. (h.0, shaped_f_half f n false free h.1))
           (λ u l. (shaped_half t n false (after_forced k (dom t)) free b h.0 (forced_below k (dom t) (shaped_dom t n b h.0)) (record { low = l; high = u }), shaped_f_half f n false (drop (need d x t) free) h.1))

@@ -86,9 +86,9 @@ pub some_many : (m : ℕ) → T (not (eqb m 0)) → 1 ≤ m
 some_many zero h = absurd h
 some_many (suc m) h = omega arith
 
-pub cond-case {ℓ} : {A : Type ℓ} (Q : A → Type 0) (t : Bool) (a b : A) → Q a → Q b → Q (cond t a b)
-cond-case Q true a b h g = h
-cond-case Q false a b h g = g
+pub cond_case {ℓ} : {A : Type ℓ} (Q : A → Type 0) (t : Bool) (a b : A) → Q a → Q b → Q (cond t a b)
+cond_case Q true a b h g = h
+cond_case Q false a b h g = g
 
 pub and_false : (a : Bool) → a && false ≡ false
 and_false true = refl
@@ -132,21 +132,21 @@ and_true true = refl
 and_true false = refl
 
 -- by cases on a test that chooses between two
-pub by-case {ℓ κ} : {A : Type κ} (P : A → Type ℓ) (s : Bool) (y z : A) → (T s → P y) → (T (not s) → P z) → P (elim s as (λ _. A) [ true ↦ y | false ↦ z ])
-by-case P true y z f g = f tt
-by-case P false y z f g = g tt
+pub by_case {ℓ κ} : {A : Type κ} (P : A → Type ℓ) (s : Bool) (y z : A) → (T s → P y) → (T (not s) → P z) → P (elim s as (λ _. A) [ true ↦ y | false ↦ z ])
+by_case P true y z f g = f tt
+by_case P false y z f g = g tt
 
 pub ne_of_bit : (c j : ℕ) → bit (eqb c j) ≡ 0 → (c ≡ j → ⊥)
 ne_of_bit c j h e = let g = self j in let u : bit (eqb j j) ≡ 0 = subst (λ i. bit (eqb i j) ≡ 0) e h in absurd (omega arith)
 
 -- a choice by a test whose value is known
-pub choice-true {ℓ} : {A : Type ℓ} (s : Bool) (y z : A) → s ≡ true → elim s as (λ _. A) [ true ↦ y | false ↦ z ] ≡ y
-choice-true true y z e = refl
-choice-true false y z e = absurd (of_true false e)
+pub choice_true {ℓ} : {A : Type ℓ} (s : Bool) (y z : A) → s ≡ true → elim s as (λ _. A) [ true ↦ y | false ↦ z ] ≡ y
+choice_true true y z e = refl
+choice_true false y z e = absurd (of_true false e)
 
-pub choice-false {ℓ} : {A : Type ℓ} (s : Bool) (y z : A) → s ≡ false → elim s as (λ _. A) [ true ↦ y | false ↦ z ] ≡ z
-choice-false true y z e = absurd (of_false true e)
-choice-false false y z e = refl
+pub choice_false {ℓ} : {A : Type ℓ} (s : Bool) (y z : A) → s ≡ false → elim s as (λ _. A) [ true ↦ y | false ↦ z ] ≡ z
+choice_false true y z e = absurd (of_false true e)
+choice_false false y z e = refl
 
 -- a count is 0, or not
 pub none_of : (n : ℕ) → (1 ≤ n → ⊥) → n ≡ 0

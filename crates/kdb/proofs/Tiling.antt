@@ -237,8 +237,8 @@ pub tiles_iff : (r : Box) (bs : List Box) → T (tiles r bs) ↔ Tiles r bs
 tiles_iff r bs = (tiles_of r bs, of_tiles r bs)
 
 -- by cases on where a region lies
-pub lies-case {ℓ} : (P : Lies → Type ℓ) (d x : ℕ) (b : Box) → (upper_at d b ≤ x → P left) → (x < upper_at d b → x ≤ lower_at d b → P right) → (x < upper_at d b → lower_at d b < x → P across) → P (lies d x b)
-lies-case P d x b f g h =
+pub lies_case {ℓ} : (P : Lies → Type ℓ) (d x : ℕ) (b : Box) → (upper_at d b ≤ x → P left) → (x < upper_at d b → x ≤ lower_at d b → P right) → (x < upper_at d b → lower_at d b < x → P across) → P (lies d x b)
+lies_case P d x b f g h =
     go (leb (upper_at d b) x) (leb x (lower_at d b)) (leb→le (upper_at d b) x) (nleb→lt (upper_at d b) x) (leb→le x (lower_at d b)) (nleb→lt x (lower_at d b))
   where
     go : (s t : Bool) → (T s → upper_at d b ≤ x) → (T (not s) → x < upper_at d b) → (T t → x ≤ lower_at d b) → (T (not t) → lower_at d b < x) → P (cond s left (cond t right across))
@@ -341,12 +341,12 @@ module _ (d x : ℕ) (pos : 0 < x) where
 
   keep_holders : (s : Bool) (b : Box) (bs : List Box) (p : Key) → holders (keep s (lies d x b) b (part s d x b) bs) p ≡ bit (on s d x p && within b p) + holders bs p
   keep_holders true b bs p =
-      lies-case (λ l. holders (keep true l b (left_part d x b) bs) p ≡ bit (ltb (key_at d p) x && within b p) + holders bs p) d x b
+      lies_case (λ l. holders (keep true l b (left_part d x b) bs) p ≡ bit (ltb (key_at d p) x && within b p) + holders bs p) d x b
       (λ h. rw (and_need (ltb (key_at d p) x) (within b p) (left_on b p h)))
       (λ _ h. rw (and_never (ltb (key_at d p) x) (within b p) (right_on b p h)) (omega arith))
       (λ h l. rw (part_within true d x b p (record { low = l; high = h })))
   keep_holders false b bs p =
-      lies-case (λ l. holders (keep false l b (right_part d x b) bs) p ≡ bit (not (ltb (key_at d p) x) && within b p) + holders bs p) d x b
+      lies_case (λ l. holders (keep false l b (right_part d x b) bs) p ≡ bit (not (ltb (key_at d p) x) && within b p) + holders bs p) d x b
       (λ h. rw (and_never (not (ltb (key_at d p) x)) (within b p) (λ t. not_T (not (ltb (key_at d p) x)) (λ n. T_not (ltb (key_at d p) x) n (left_on b p h t)))) (omega arith))
       (λ _ h. rw (and_need (not (ltb (key_at d p) x)) (within b p) (right_on b p h)))
       (λ h l. rw (part_within false d x b p (record { low = l; high = h })))
@@ -361,10 +361,10 @@ module _ (d x : ℕ) (pos : 0 < x) where
     where
       go : (s : Bool) → T (solid b) → T (every solid (parts s d x bs)) → T (every solid (keep s (lies d x b) b (part s d x b) (parts s d x bs)))
       go true y i =
-          lies-case (λ l. T (every solid (keep true l b (left_part d x b) (parts true d x bs)))) d x b (λ _. and_i (solid b) _ y i) (λ _ _. i)
+          lies_case (λ l. T (every solid (keep true l b (left_part d x b) (parts true d x bs)))) d x b (λ _. and_i (solid b) _ y i) (λ _ _. i)
           (λ h l. and_i (solid (left_part d x b)) _ (part_solid true d x b (record { low = l; high = h }) y) i)
       go false y i =
-          lies-case (λ l. T (every solid (keep false l b (right_part d x b) (parts false d x bs)))) d x b (λ _. i) (λ _ _. and_i (solid b) _ y i)
+          lies_case (λ l. T (every solid (keep false l b (right_part d x b) (parts false d x bs)))) d x b (λ _. i) (λ _ _. and_i (solid b) _ y i)
           (λ h l. and_i (solid (right_part d x b)) _ (part_solid false d x b (record { low = l; high = h }) y) i)
 
 -- the regions of a tiling on a side of a cut tile that part of its region

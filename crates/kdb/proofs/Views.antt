@@ -15,7 +15,7 @@ use Rattle.kdb.specs.Tree.{Rec, Tree, leaf, node, Forest, fnil, fcons, boxes, le
 use Rattle.kdb.specs.Shape.{PointPage, RegionPage, Shaped, ShapedF}
 use Rattle.kdb.specs.Pages.{Page, blank, points, regions, recs_in, in_use}
 use Rattle.kdb.specs.Print.{ents, or_page, page_of, page_of_f}
-use Rattle.kdb.proofs.Tests.{bool, and_l, and_r, and_i, or_l, or_r, self, to_bit, is_false, of_true, cond-case, some_many}
+use Rattle.kdb.proofs.Tests.{bool, and_l, and_r, and_i, or_l, or_r, self, to_bit, is_false, of_true, cond_case, some_many}
 use Rattle.kdb.proofs.Counts.{many_append, sum_same, sum_add, sum_none, sum_hit, Ranged}
 use Rattle.kdb.proofs.Box.{within_i, within_e, within_length}
 use Rattle.kdb.proofs.Tiling.{low, low_in}
@@ -172,10 +172,10 @@ module _ (k R P : ℕ) (v : ℕ → Page) (Q : Page → Type 0) (free : Q blank)
     (onRegions : (d : ℕ) (f : Forest) (n : ℕ) (r : Box) → Under k r → RegionPage k R d (boxes f) r → ShapedF k R P f n → SeenF v f → Q (regions d (ents f))) where
   mutual
     pub page_case : (t : Tree) (n : ℕ) (r : Box) → Under k r → Shaped k R P t n r → Seen v t → (c : ℕ) → Q (page_of t c)
-    page_case (leaf p d rs) n r u s e c = cond-case Q (eqb c p) (points d rs) blank (onPoints d rs r u s.1) free
+    page_case (leaf p d rs) n r u s e c = cond_case Q (eqb c p) (points d rs) blank (onPoints d rs r u s.1) free
     page_case (node p d f) zero r u s e c = absurd s
     page_case (node p d f) (suc n) r u s e c =
-        cond-case Q (eqb c p) (regions d (ents f)) (page_of_f f c) (onRegions d f n r u s.0 s.1 e.1)
+        cond_case Q (eqb c p) (regions d (ents f)) (page_of_f f c) (onRegions d f n r u s.0 s.1 e.1)
         (page_case_f f n (tiles_under k r (boxes f) u s.0.tiled) s.1 e.1 c)
 
     page_case_f : (f : Forest) (n : ℕ) → Each (Under k) (boxes f) → ShapedF k R P f n → SeenF v f → (c : ℕ) → Q (page_of_f f c)

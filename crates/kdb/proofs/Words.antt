@@ -16,7 +16,7 @@ use Rattle.kdb.specs.Pages.{Ent, Page, blank, points, regions, regions_per, poin
 use Rattle.kdb.specs.Pool.{domains, view, is_page}
 use Rattle.kdb.specs.Walk.{good_points, good_regions}
 use Rattle.kdb.proofs.Tests.{and_t}
-use Rattle.kdb.proofs.Lists.{drop-take}
+use Rattle.kdb.proofs.Lists.{drop_take}
 use Rattle.kdb.proofs.Pages.{recs_take, ents_take, length_recs, length_ents, word_at_lem}
 
 -- the record and the entry at word a of a pool
@@ -37,7 +37,7 @@ ent_turn k c e w a h =
 
 -- the words of page j from word m on
 pub page_rest : (L : ℕ) (w : List ℕ) (j m : ℕ) → drop m (page L w j) ≡ take (L - m) (drop (L * j + m) w)
-page_rest L w j m = drop-take m L (drop (L * j) w) ∙ ap (take (L - m)) (drop-drop m (L * j) w)
+page_rest L w j m = drop_take m L (drop (L * j) w) ∙ ap (take (L - m)) (drop-drop m (L * j) w)
 
 -- a page's kind and count by its words
 other : (a : ℕ) → eqb a 1 ≡ true → eqb a 2 ≡ false

@@ -58,7 +58,7 @@ pub record FindsExactly (rs : List Rec) (p : List ℕ) (o : Outcome) : Type 0 wh
 -- what a call is given beside the pool: the domains of a new index, nothing, a point, a point and a work buffer, a window
 pub data Given : Type 0 where
   new_domains nothing : Given
-  a_point aWindow : List ℕ → Given
+  a_point a_window : List ℕ → Given
   a_point_and_work : List ℕ → List ℕ → Given
 
 abbrev pub given_to : Call → Given
@@ -67,14 +67,14 @@ given_to check = nothing
 given_to (place work p l) = a_point_and_work p work
 given_to (remove p) = a_point p
 given_to (find p) = a_point p
-given_to (list v answer) = aWindow v
+given_to (list v answer) = a_window v
 
 -- all calls but format look at the header
 abbrev pub headed : Given → Bool
 headed new_domains = false
 headed nothing = true
 headed (a_point p) = true
-headed (aWindow v) = true
+headed (a_window v) = true
 headed (a_point_and_work p work) = true
 
 -- the lengths are right: a point K words, a window 2K, the work buffer as many as the pool
@@ -82,7 +82,7 @@ abbrev pub fitting : List ℕ → Given → Bool
 fitting w new_domains = true
 fitting w nothing = true
 fitting w (a_point p) = eqb (length p) (domains w)
-fitting w (aWindow v) = eqb (length v) (2 * domains w)
+fitting w (a_window v) = eqb (length v) (2 * domains w)
 fitting w (a_point_and_work p work) = eqb (length p) (domains w) && eqb (length work) (length w)
 
 -- the keys or window ends
@@ -90,7 +90,7 @@ abbrev pub ends_in : Given → List ℕ
 ends_in new_domains = []
 ends_in nothing = []
 ends_in (a_point p) = p
-ends_in (aWindow v) = v
+ends_in (a_window v) = v
 ends_in (a_point_and_work p work) = p
 
 -- length and header of the pool are right: neither 1 nor the header's 6

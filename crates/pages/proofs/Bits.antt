@@ -27,8 +27,8 @@ pub case {ℓ} : {C : Type ℓ} (b : Bool) → (b ≡ true → C) → (b ≡ fal
 case true f g = f refl
 case false f g = g refl
 
-pub true-false {ℓ} : {C : Type ℓ} → true ≡ false → C
-true-false e = absurd (let z : ◌≡◌ {A = ℕ} 0 1 = cc in omega arith)
+pub true_false {ℓ} : {C : Type ℓ} → true ≡ false → C
+true_false e = absurd (let z : ◌≡◌ {A = ℕ} 0 1 = cc in omega arith)
 
 -- each of the points has the mark of its bits
 abbrev pub bits_of : Key → ℕ
@@ -144,7 +144,7 @@ module _ (w : List ℕ) (k at count : ℕ) (t : List ℕ) (a e : ℕ) (m : Done 
           sym (is_false (differ (read_recs k count (drop at w))) (not_T (differ (read_recs k count (drop at w))) (λ y.
           let d = tail_differ (e - 1) (count - (e - 1)) w k at (subst (λ (i : ℕ). T (differ (read_recs k i (drop at w)))) n y) in
           let u : T (differ (rec_at k w b ∷ met)) = subst (λ (l : List Rec). T (differ l)) (ap (λ (i : ℕ). read_recs k (count - (e - 1)) (drop i w)) (sym c) ∙ more_is) d in
-          true-false (sym (is_true (unlike (rec_key k w b) met) (and_l (unlike (rec_key k w b) met) _ u)) ∙ (sym test_is ∙ f)))))
+          true_false (sym (is_true (unlike (rec_key k w b) met) (and_l (unlike (rec_key k w b) met) _ u)) ∙ (sym test_is ∙ f)))))
 
       pub done_next : cond (not (eqb v 0)) (unlike (rec_key k w b) met) true ≡ true → Done w k at count (set t (x % 128) 1) b (e - 1)
       done_next f =

@@ -30,7 +30,7 @@ use Rattle.pages.specs.Tests.{head_of, PageOf}
 use Rattle.pages.specs.Kinds.{laid_out, sound_points, sound_regions}
 use Rattle.pages.proofs.Laying.{recs_words, ents_words, layout_iff}
 use Rattle.pages.proofs.Here.{points_say, regions_say}
-use Rattle.pages.proofs.Bits.{case, true-false}
+use Rattle.pages.proofs.Bits.{case, true_false}
 
 -- the tests in the order of the definition and in that of code: word 3 is zero, the words behind the entries are, the domain, the rest
 points_order : (z t d x y : Bool) → (z && t && true) && ((true && d) && x && y) ≡ ((true && d) && z) && t && x && y
@@ -134,7 +134,7 @@ module _ (w : List ℕ) (f : Form) (j : ℕ) (g : Formed w f) (i : PageOf f j) w
       let s : recs_in (view L w j) ≡ recs = ap recs_in v ∙ (ap (read_recs k n) (page_rest L w j 4) ∙ recs_take k n (L - 4) (drop (L * j + 4) w) fits) in
       rw (t, laid_is (n * (k + 1)) (omega arith) p, ap is_points v, ap domain v ∙ word 2 (omega arith), s, length_recs k n (drop (L * j + 4) w), c.1)
       (sym (points_order (eqb (word_at w j 3) 0) (tail (n * (k + 1))) (ltb (word_at w j 2) k) (every (λ q. within r q.key) recs) (differ recs))))
-      (λ t. rw t (sym (is_false (sound_points L w j r) (not_T (sound_points L w j r) (λ u. true-false (sym (points_good r u) ∙ (good_points_lem L w j (omega arith) is_page_lem ∙ t)))))))
+      (λ t. rw t (sym (is_false (sound_points L w j r) (not_T (sound_points L w j r) (λ u. true_false (sym (points_good r u) ∙ (good_points_lem L w j (omega arith) is_page_lem ∙ t)))))))
 
   pub points_count : (r : Box) → sound_points L w j r ≡ true → n ≡ length (recs_in (view L w j))
   points_count r t = sym (ap length (points_in_lem L w j (omega arith) is_page_lem (points_good r (of_true (sound_points L w j r) t))).0 ∙ length_recs k n (drop (L * j + 4) w))
@@ -167,7 +167,7 @@ module _ (w : List ℕ) (f : Form) (j : ℕ) (g : Formed w f) (i : PageOf f j) w
       (sym (regions_order (eqb (word_at w j 3) 0) (tail (n * (2 * k + 1))) (leb 1 n) (ltb (word_at w j 2) k) (tiles r (regions_at k n w (L * j + 4))))))
       (λ t. rw t (sym (is_false (sound_regions L w j r) (not_T (sound_regions L w j r) (λ u.
       let a = and_t (eqb (word_at w j 0) 1 && leb 1 n) _ (sym (good_regions_lem L w j (omega arith) is_page_lem) ∙ regions_good r u) in
-      true-false (sym (ap₂ ◌&&◌ (and_t (eqb (word_at w j 0) 1) _ a.0).0 a.1) ∙ t))))))
+      true_false (sym (ap₂ ◌&&◌ (and_t (eqb (word_at w j 0) 1) _ a.0).0 a.1) ∙ t))))))
 
 -- the same as code takes them: a way out for each test that fails, and the last test
 module _ (w : List ℕ) (f : Form) (j : ℕ) (h : Fit w f) (i : PageOf f j) where

@@ -14,7 +14,7 @@ use Rattle.kdb.specs.Walk.{End, rootless, bad, absent, here, find_walk, list_wal
 use Rattle.kdb.specs.declared.Refusal.TheVariants.{PoolLength, Domains}
 use Rattle.kdb.specs.Calls.{alone, working, answering, L, Call, format, place, remove, find, list, Buffers, lent, Outcome, refuses, Test, ◌or◌, unless, judge, good_domains, window_of, removing, finding, tests, core, outcome, Promise}
 use Rattle.kdb.specs.Frames.{words_of, new_of, place_of, slots, with_words, framed, Frame, new, call, Reply, answer_text, renewed, answered, obey}
-use Rattle.kdb.proofs.Tests.{and_false, cases, cond-case}
+use Rattle.kdb.proofs.Tests.{and_false, cases, cond_case}
 use Rattle.kdb.proofs.Lawful.{refusal_keeps}
 use Rattle.kdb.proofs.Frames.{format_length, place_work}
 use Rattle.opening.specs.Opens.{finished_as}
@@ -226,7 +226,7 @@ unfolding outcome
 list_worked w work =
     worked (λ v. list v slots) w work
     (λ v. judge_work (tests w (list v slots)) (lent w (list v slots)) (core w (list v slots)) refl
-    (cond-case (λ (o : Outcome). o.after.work ≡ []) (list_walk L w (window_of (domains w) v)).bad _ _ refl refl))
+    (cond_case (λ (o : Outcome). o.after.work ≡ []) (list_walk L w (window_of (domains w) v)).bad _ _ refl refl))
 
 new_worked : (w work bytes : List ℕ) → work ≡ work_after w work (new_of bytes)
 new_worked w work [] = refl
@@ -240,7 +240,7 @@ pub unplaced : (w work bytes : List ℕ) → (get_or bytes 0 0 ≡ 1 → ⊥) �
 unplaced w work [] h = refl
 unplaced w work (b ∷ bs) h =
     let P : Frame → Type 0 = λ f. work ≡ work_after w work f in
-    cond-case P (eqb b 0) _ _ (new_worked w work bs)
-    (rw (ne_eqb b 1 h) (cond-case P (eqb b 2) _ _ (remove_worked w work (words_of bs))
-    (cond-case P (eqb b 3) _ _ (find_worked w work (words_of bs))
-    (cond-case P (eqb b 4) _ _ (list_worked w work (words_of bs)) refl))))
+    cond_case P (eqb b 0) _ _ (new_worked w work bs)
+    (rw (ne_eqb b 1 h) (cond_case P (eqb b 2) _ _ (remove_worked w work (words_of bs))
+    (cond_case P (eqb b 3) _ _ (find_worked w work (words_of bs))
+    (cond_case P (eqb b 4) _ _ (list_worked w work (words_of bs)) refl))))

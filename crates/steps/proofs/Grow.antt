@@ -17,7 +17,7 @@ use Rattle.kdb.specs.Cut.{Cut, nowhere, cut, cut_points, cut_regions}
 use Rattle.kdb.specs.Steps.{Two, split, after_chosen, Up, failed, fits, parts, UpF, failed_f, kept, wider, size, join_f, parted, enter, behind, chosen, settle_node, grow, grow_f}
 use Rattle.kdb.specs.Pages.{points, regions, layout, words_r, words_e, print_page, read_recs, read_ents, page}
 use Rattle.kdb.specs.Print.{ents}
-use Rattle.kdb.proofs.Tests.{bool, choice-true, choice-false, is_true, is_false, self}
+use Rattle.kdb.proofs.Tests.{bool, choice_true, choice_false, is_true, is_false, self}
 use Rattle.kdb.proofs.Lists.{each_append, gather_append}
 use Rattle.kdb.proofs.Counts.{many_append}
 use Rattle.kdb.proofs.Stores.{pad_tail, pad_set, set_append_add}
@@ -123,16 +123,16 @@ module _ (k R P : ℕ) (q : Rec) where
       bool (within b q.key)
       (λ t₁. let y = is_true (within b q.key) t₁ in
       let s = seek_here k q.key i src a b bx y in
-      hit fnil b t f (record { is = refl; at = s ∙ omega arith; fair = λ free g. g.0 t₁; steps = λ free. choice-true (within b q.key) (enter b (grow k R P t q free) f) (behind b t (grow_f k R P f q free)) y }))
+      hit fnil b t f (record { is = refl; at = s ∙ omega arith; fair = λ free g. g.0 t₁; steps = λ free. choice_true (within b q.key) (enter b (grow k R P t q free) f) (behind b t (grow_f k R P f q free)) y }))
       (λ t₁. let y = is_false (within b q.key) t₁ in
       let s = seek_next k q.key i src a b bx y in
-      seek_case n f src zs (a + wd) e2 fit.2 (λ z g. lost (s ∙ z) (λ free. choice-false (within b q.key) (enter b (grow k R P t q free) f) (behind b t (grow_f k R P f q free)) y ∙ ap (behind b t) (g free)))
+      seek_case n f src zs (a + wd) e2 fit.2 (λ z g. lost (s ∙ z) (λ free. choice_false (within b q.key) (enter b (grow k R P t q free) f) (behind b t (grow_f k R P f q free)) y ∙ ap (behind b t) (g free)))
       (λ pre b' t' post o. hit (fcons b t pre) b' t' post
       (record {
         is = ap (fcons b t) o.is;
         at = s ∙ (o.at ∙ omega (arith, length-append E (gather words_e (ents pre)), long));
         fair = λ free g. o.fair free (g.1 t₁);
-        steps = λ free. choice-false (within b q.key) (enter b (grow k R P t q free) f) (behind b t (grow_f k R P f q free)) y ∙ ap (behind b t) (o.steps free);
+        steps = λ free. choice_false (within b q.key) (enter b (grow k R P t q free) f) (behind b t (grow_f k R P f q free)) y ∙ ap (behind b t) (o.steps free);
       })))
 
 -- a page that was cut
@@ -207,7 +207,7 @@ module _ (L N k R P : ℕ) (big : 4 ≤ L) (fit_r : 4 + R * (2 * k + 1) ≤ L) (
         let a = append L big (k + 1) w p 2 m e ws u h len (rec_length k q key) room in
         let w' = append_in L (k + 1) w p u in
         let n2 : suc m ≡ length rs' = omega (arith, n1) in
-        let is = choice-true (leb (length rs') P) (fits (leaf p e rs') free) (chosen k R P (cut_points k e rs') (leaf p e rs') free) (le-leb (length rs') P (omega (arith, n1))) in
+        let is = choice_true (leb (length rs') P) (fits (leaf p e rs') free) (chosen k R P (cut_points k e rs') (leaf p e rs') free) (le-leb (length rs') P (omega (arith, n1))) in
         rw (e1, lt-ltb m P l)
         (subst (λ v. OutcomeG L N k R P 0 w (leaf p e rs) free v (record { how = fine; words = w' })) (sym is) (
           refl,
@@ -229,7 +229,7 @@ module _ (L N k R P : ℕ) (big : 4 ≤ L) (fit_r : 4 + R * (2 * k + 1) ≤ L) (
         let D : drop 4 src ≡ gather words_r rs' ++ zs = over L big (k + 1) w p 2 m e ws u h len (rec_length k q key) room ∙ ap (λ v. v ++ zs) (sym fl) in
         let c : read_recs k (m + 1) (drop 4 src) ≡ rs' = ap₂ (read_recs k) (sym n1) D ∙ recs_back k rs' zs ks in
         let o = cut_points_lem p e m ws rs' src zs w free (leaf p e rs) refl refl ks D h f once (cut_points k e rs') (fair (omega (arith, n1))) in
-        let is = choice-false (leb (length rs') P) (fits (leaf p e rs') free) (chosen k R P (cut_points k e rs') (leaf p e rs') free) (lt-leb (length rs') P (omega (arith, n1))) in
+        let is = choice_false (leb (length rs') P) (fits (leaf p e rs') free) (chosen k R P (cut_points k e rs') (leaf p e rs') free) (lt-leb (length rs') P (omega (arith, n1))) in
         rw (e1, e2, le-ltb m P l, eq-eqb m P (omega (arith, fit.0)), c)
         (subst₂ (λ v i. OutcomeG L N k R P 0 w (leaf p e rs) free v (break_points L N k R P (cut_points k e rs') src i p w)) (sym is) n1 o))
 
@@ -388,7 +388,7 @@ module _ (L N k R P : ℕ) (big : 4 ≤ L) (fit_r : 4 + R * (2 * k + 1) ≤ L) (
             long = o3.long ∙ (o2.long ∙ sp.long);
             fit = (few', fitH);
           } in
-          let is = choice-true (leb (size H) R) (fits (node p e H) s.free) (chosen k R P (cut_regions k e (boxes H)) (node p e H) s.free) (le-leb (size H) R few') in
+          let is = choice_true (leb (size H) R) (fits (node p e H) s.free) (chosen k R P (cut_regions k e (boxes H)) (node p e H) s.free) (le-leb (size H) R few') in
           subst₂ (λ u z. OutcomeG L N k R P (suc n) w (node p e G) free u z) (sym is)
           (sym (widen_room L N k R P n d x (root s.rt) a p w1 ER v m e (of 1 (omega arith)) (of 2 (omega arith)) u-is v-is l)) (refl, g))
           (λ y. let l = nltb→le m R y in
@@ -406,7 +406,7 @@ module _ (L N k R P : ℕ) (big : 4 ≤ L) (fit_r : 4 + R * (2 * k + 1) ≤ L) (
             long = o2.long ∙ sp.long;
           })
           fitH D o2.here heldH freeV (λ c. omega (arith, once' c, sp.count c, cntH c)) (cut_regions k e (boxes H)) (fair over-R) in
-          let is = choice-false (leb (size H) R) (fits (node p e H) s.free) (chosen k R P (cut_regions k e (boxes H)) (node p e H) s.free) (lt-leb (size H) R over-R) in
+          let is = choice_false (leb (size H) R) (fits (node p e H) s.free) (chosen k R P (cut_regions k e (boxes H)) (node p e H) s.free) (lt-leb (size H) R over-R) in
           let eq : widen_in L N k R P n d x (root s.rt) a p w1 ≡ break_regions L N k R P n (cut_regions k e (boxes H)) src (length (ents H)) p v =
           widen_full L N k R P n d x (root s.rt) a p w1 ER v m e (of 1 (omega arith)) (of 2 (omega arith)) u-is v-is (omega (arith, fit.0, size_ents G))
           ∙ ap₂ (λ bs i. break_regions L N k R P n (cut_regions k e bs) src i p v) c (sym m-H) in

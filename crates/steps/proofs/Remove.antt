@@ -22,7 +22,7 @@ use Rattle.kdb.specs.Walk.{Spot, spots, good_points, good_regions, rootless, bad
 use Rattle.kdb.specs.Shape.{WellFormed}
 use Rattle.kdb.specs.Header.{print_header, rooted}
 use Rattle.kdb.specs.Print.{ents, header_of, printed}
-use Rattle.kdb.proofs.Tests.{bool, is_true, is_false, choice-true, choice-false, no_bit, self}
+use Rattle.kdb.proofs.Tests.{bool, is_true, is_false, choice_true, choice_false, no_bit, self}
 use Rattle.kdb.proofs.Lists.{append_each, gather_append}
 use Rattle.kdb.proofs.Counts.{many_append}
 use Rattle.kdb.proofs.Stores.{length_pad, pad_nil, sets_append, pad_gap}
@@ -113,7 +113,7 @@ around j i p (r ∷ rs) sp h =
       is = refl;
       page = ap (λ s. s.page) (sym e);
       slot = ap (λ s. s.slot) (sym e) ∙ omega arith;
-      gone = choice-true (same p r.key) rs (r ∷ without p rs) y;
+      gone = choice_true (same p r.key) rs (r ∷ without p rs) y;
     })
     (λ t. let y = is_false (same p r.key) t in
     let h' : spot_of j p (spots j (suc i) rs) ≡ here sp = rw y at h in
@@ -125,7 +125,7 @@ around j i p (r ∷ rs) sp h =
       is = ap (λ l. r ∷ l) o.is;
       page = o.page;
       slot = o.slot ∙ omega arith;
-      gone = choice-false (same p r.key) rs (r ∷ without p rs) y ∙ ap (λ l. r ∷ l) o.gone;
+      gone = choice_false (same p r.key) rs (r ∷ without p rs) y ∙ ap (λ l. r ∷ l) o.gone;
     })
 
 -- a search that ended at a record passed its tests
@@ -229,7 +229,7 @@ module _ (L k R P : ℕ) (w : List ℕ) (p : Key) (sp : Spot) where
         (λ y₁. let y = is_true (within b p) y₁ in
         let h' : (seek L w p n (root t)).end ≡ here sp = rw y at h in
         let o = gone t n fit.1 seen.0 held.0 (λ c. omega (arith, once c, cnt c)) h' in
-        let is = choice-true (within b p) (fcons b (remove t p) f) (fcons b t (remove_f f p)) y in
+        let is = choice_true (within b p) (fcons b (remove t p) f) (fcons b t (remove_f f p)) y in
         subst (λ g. GoneF (fcons b t f) g) (sym is)
         (record {
           slot = o.slot;
@@ -246,7 +246,7 @@ module _ (L k R P : ℕ) (w : List ℕ) (p : Key) (sp : Spot) where
         (λ y₁. let y = is_false (within b p) y₁ in
         let h' : (into (seek L w p n) p (ents f)).end ≡ here sp = rw y at h in
         let o = gone_f f n fit.2 seen.1 held.1 (λ c. omega (arith, once c, cnt c)) h' in
-        let is = choice-false (within b p) (fcons b (remove t p) f) (fcons b t (remove_f f p)) y in
+        let is = choice_false (within b p) (fcons b (remove t p) f) (fcons b t (remove_f f p)) y in
         subst (λ g. GoneF (fcons b t f) g) (sym is)
         (record {
           slot = o.slot;

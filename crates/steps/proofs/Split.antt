@@ -20,7 +20,7 @@ use Rattle.kdb.proofs.Tests.{self}
 use Rattle.kdb.proofs.Lists.{each_only}
 use Rattle.kdb.proofs.Counts.{many_append, only_most}
 use Rattle.kdb.proofs.Stores.{pad_tail}
-use Rattle.kdb.proofs.Tiling.{lies-case, keep, parts, part_length}
+use Rattle.kdb.proofs.Tiling.{lies_case, keep, parts, part_length}
 use Rattle.kdb.proofs.Pages.{ent_length, word_at_lem}
 use Rattle.words.specs.Words.{word}
 use Rattle.steps.specs.Machine.{Passed, Claimed, fresh_in, append_in}
@@ -35,10 +35,10 @@ parts_most : (s : Bool) (d x : ℕ) (bs : List Box) → length (parts s d x bs) 
 parts_most s d x [] = omega arith
 parts_most true d x (b ∷ bs) =
     let ih = parts_most true d x bs in
-    lies-case (λ z. length (keep true z b (left_part d x b) (parts true d x bs)) ≤ suc (length bs)) d x b (λ _. omega arith) (λ _ _. omega arith) (λ _ _. omega arith)
+    lies_case (λ z. length (keep true z b (left_part d x b) (parts true d x bs)) ≤ suc (length bs)) d x b (λ _. omega arith) (λ _ _. omega arith) (λ _ _. omega arith)
 parts_most false d x (b ∷ bs) =
     let ih = parts_most false d x bs in
-    lies-case (λ z. length (keep false z b (right_part d x b) (parts false d x bs)) ≤ suc (length bs)) d x b (λ _. omega arith) (λ _ _. omega arith) (λ _ _. omega arith)
+    lies_case (λ z. length (keep false z b (right_part d x b) (parts false d x bs)) ≤ suc (length bs)) d x b (λ _. omega arith) (λ _ _. omega arith) (λ _ _. omega arith)
 
 -- what a split leaves
 module _ (L N : ℕ) where
@@ -296,7 +296,7 @@ module _ (L N k d x R P : ℕ) (big : 4 ≤ L) (low : d < k) where
       let at : drop a src ≡ words_e (ent b (root t)) ++ (gather words_e (ents f) ++ zs) = D ∙ append_assoc (words_e (ent b (root t))) (gather words_e (ents f)) zs in
       let once' : (c : ℕ) → bit (eqb c j) + bit (eqb c r) + (many c (pages t) + many c (pages_f f)) + many c free ≤ 1 = λ c. omega (arith, once c, many_append c (pages t) (pages_f f)) in
       let ih = pass below n ok f in
-      lies-case (turn below n b t f ih src zs a j r e w free mL wsL mR wsR at fit held fr once') d x b
+      lies_case (turn below n b t f ih src zs a j r e w free mL wsL mR wsR at fit held fr once') d x b
       (to_the_left below n b t f ih src zs a j r e w free mL wsL mR wsR at fit held fr once')
       (to_the_right below n b t f ih src zs a j r e w free mL wsL mR wsR at fit held fr once')
       (λ y z. to_both below n b t f ih src zs a j r e w free mL wsL mR wsR at fit held fr once' y z ok)
@@ -496,7 +496,7 @@ module _ (k R P d x : ℕ) where
         let r = length (parts false d x (boxes f)) in
         let Q : Lies → Type 0 = λ z. All (Sized n (length (keep true z b (left_part d x b) (parts true d x (boxes f)))) (length (keep false z b (right_part d x b) (parts false d x (boxes f)))))
         (deal k d x z b t (split k d x t (after_forced k (dom t)) free) (split_f k d x f) free) in
-        lies-case Q d x b
+        lies_case Q d x b
         (λ _. fit_left b t f n h l r (split_f k d x f free) (split_f_fits f n free h.2))
         (λ _ _. fit_right b t f n h l r (split_f k d x f free) (split_f_fits f n free h.2))
         (λ _ _. fit_across b t f n h l r (split k d x t (after_forced k (dom t)) free) (split_fits t n (after_forced k (dom t)) free h.1) (split_f k d x f) (λ free. split_f_fits f n free h.2))
