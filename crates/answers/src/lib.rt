@@ -15,7 +15,7 @@ use query::{Found, Listed};
 use text::{put, put_hex, put_value, put_words};
 
 // The number of an answer and its values: how many of the two there are. With none the first is 0.
-#[derive(Drop)]
+#[derive(Clone, Copy)]
 pub struct Values {
     pub number: usize,
     pub count: usize,

@@ -15,7 +15,7 @@ use pages::{point_page, region_page};
 use words::{WHOLE, get, put, read, zeros};
 
 // What a walk has met: whether a page was bad, and how many points are still to be found.
-#[derive(Drop)]
+#[derive(Clone, Copy)]
 pub struct Seen {
     pub bad: bool,
     pub left: usize,

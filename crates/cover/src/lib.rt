@@ -83,7 +83,7 @@ fn fit(p: &[u32], k: usize, at: usize, count: usize, q: &[u32], b: usize) -> boo
 }
 
 // A number of keys, hi · 2 ^ 64 + lo.
-#[derive(Drop)]
+#[derive(Clone, Copy)]
 pub struct Amount {
     pub hi: usize,
     pub lo: usize,

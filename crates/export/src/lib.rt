@@ -12,7 +12,7 @@ use query::{Found, Listed, check, find, list};
 
 // A remove's number and location.
 #[repr(C)]
-#[derive(Drop)]
+#[derive(Clone, Copy)]
 pub struct Removal {
     pub number: u32,
     pub location: u32,
@@ -20,7 +20,7 @@ pub struct Removal {
 
 // A find's number, location and pages read.
 #[repr(C)]
-#[derive(Drop)]
+#[derive(Clone, Copy)]
 pub struct Finding {
     pub number: u32,
     pub location: u32,
@@ -29,7 +29,7 @@ pub struct Finding {
 
 // A list's number, total and pages read.
 #[repr(C)]
-#[derive(Drop)]
+#[derive(Clone, Copy)]
 pub struct Listing {
     pub number: u32,
     pub total: u32,

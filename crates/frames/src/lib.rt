@@ -91,14 +91,14 @@ fn close(
 }
 
 // What is kept between two pieces besides the buffers: the pool's words, and the characters of the line so far.
-#[derive(Drop)]
+#[derive(Clone, Copy)]
 pub struct Held {
     pub words: usize,
     pub digits: usize,
 }
 
 // What is kept between two bytes, and the place in the output.
-#[derive(Drop)]
+#[derive(Clone, Copy)]
 struct Standing {
     words: usize,
     digits: usize,
@@ -138,7 +138,7 @@ fn step(
 }
 
 // What is kept after a piece, how many of its bytes were taken, and how many bytes were written.
-#[derive(Drop)]
+#[derive(Clone, Copy)]
 pub struct Taken {
     pub words: usize,
     pub digits: usize,

@@ -22,7 +22,7 @@ use split::part_regions;
 use words::{get, points_per, put, regions_per, word};
 
 // How a page took the point, if it did: with room, where page is 0, or broken along a key of a domain, page the right one.
-#[derive(Drop)]
+#[derive(Clone, Copy)]
 pub struct Grown {
     pub ok: bool,
     pub page: usize,

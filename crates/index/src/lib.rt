@@ -16,7 +16,7 @@ use walk::{Sought, search};
 use words::{clear, form_of, page_count, put};
 
 // At: location.
-#[derive(Drop)]
+#[derive(Clone, Copy)]
 pub enum Removed {
     At(usize),
     Refused(Refusal),

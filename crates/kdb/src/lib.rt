@@ -3,7 +3,7 @@
 // Definitions and theorems: what the signal index means. It has no function, and the types that definitions and code share.
 
 // Why a call was refused, in the order of document 01's numbers.
-#[derive(Drop)]
+#[derive(Clone, Copy)]
 pub enum Refusal {
     PoolLength,
     Domains,

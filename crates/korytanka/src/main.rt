@@ -8,7 +8,7 @@ use frames::Held;
 use std::io::{Read, Write};
 
 // What is kept between two reads, and whether the output still takes bytes.
-#[derive(Drop)]
+#[derive(Clone, Copy)]
 struct Passed {
     words: usize,
     digits: usize,

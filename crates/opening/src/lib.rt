@@ -29,7 +29,7 @@ pub fn number(r: Refusal) -> u32
 }
 
 // The answer of a call that returns no values, and of the tests before a call: done, or why not.
-#[derive(Drop)]
+#[derive(Clone, Copy)]
 pub enum Finished {
     Done,
     Refused(Refusal),

@@ -16,14 +16,14 @@ use walk::{Sought, list_walk, search};
 use words::{clear, domains_of, form_of};
 
 // At: location and pages read.
-#[derive(Drop)]
+#[derive(Clone, Copy)]
 pub enum Found {
     At(usize, usize),
     Refused(Refusal),
 }
 
 // Counted: total and pages read.
-#[derive(Drop)]
+#[derive(Clone, Copy)]
 pub enum Listed {
     Counted(usize, usize),
     Refused(Refusal),

@@ -16,7 +16,7 @@ use text::{byte_at, words_of};
 use words::smaller;
 
 // The pool's words after a line, and the place in the output that follows its answer.
-#[derive(Drop)]
+#[derive(Clone, Copy)]
 pub struct Said {
     pub words: usize,
     pub at: usize,

@@ -18,7 +18,7 @@ use words::{domains_of, get, point_location, points_per, put, read, regions_per}
 
 // How a search ended: at the record (page, slot, location, pages read), in the point page that lacks the point (page, pages read), at
 // a bad page (pages read), or before it began, for want of a root.
-#[derive(Drop)]
+#[derive(Clone, Copy)]
 pub enum Sought {
     Here(usize, usize, usize, usize),
     Absent(usize, usize),
