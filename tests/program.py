@@ -153,7 +153,7 @@ def command_without():
             (pathlib.Path(folder) / made).mkdir(parents=True)
         shutil.copy(ROOT / "tools/build", pathlib.Path(folder) / "tools")
         tools = pathlib.Path(folder) / "bin"
-        for tool in ("bash", "env", "dirname", "readlink", "find", "grep", "touch", "mkdir", "tee", "cp"):
+        for tool in ("bash", "env", "dirname", "readlink", "find", "grep", "touch", "mkdir", "tee", "tail", "cp", "mv"):
             (tools / tool).symlink_to(shutil.which(tool))
 
         def fake(tool, does):

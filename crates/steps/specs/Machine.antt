@@ -1,4 +1,4 @@
--- The stores that every step on words is made of. A step's name ends in `In` where it works in place, on a pool's words. L is the words of
+-- The stores that every step on words is made of. A step's name ends in `_in` where it works in place, on a pool's words. L is the words of
 -- a page, wd the words of an entry.
 use Rattle.std.specs.Prelude.{Bool, cond, List, ℕ, ◌+◌, ◌*◌, leb, set, replicate}
 use Rattle.std.proofs.lemmas.List.Edits.{sets}
