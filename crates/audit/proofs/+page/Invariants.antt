@@ -1,4 +1,4 @@
--- `audit::page` meets its contract: page j, that is to have `level` levels and the region at word b of q, and all below it.
+-- `audit::page`, its loop and its measure: what is left of the entries gives what all of them give; the level falls.
 use Prim.Native.Nat.{◌≤◌, ◌-◌, ◌+◌, ◌*◌}
 use mathlib.Core.Path.{◌≡◌}
 use lib.ListN.{length, drop}

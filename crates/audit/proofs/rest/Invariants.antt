@@ -1,4 +1,4 @@
--- `audit::rest` meets its contract: every page behind the header that was not met is all zero.
+-- `audit::rest`, its loop: every page behind the header that was not met is all zero.
 use Prim.Native.Nat.{◌≤◌, ◌-◌}
 use mathlib.Core.Path.{◌≡◌}
 use Rattle.words.specs.Loops.{all_by}

@@ -1,4 +1,4 @@
--- `boxes::in_window` meets its contract: the loop over the domains is `in_window`.
+-- `boxes::in_window`, its loop: the loop over the domains is `in_window`.
 use Rattle.boxes.specs.Tests.{seen_at}
 use Rattle.words.specs.Words.{keys_of}
 use Rattle.kdb.specs.Calls.{window_of}

@@ -1,4 +1,4 @@
--- `boxes::meets_window` meets its contract: the loop over the domains is `meets`.
+-- `boxes::meets_window`, its loop: the loop over the domains is `meets`.
 use Rattle.boxes.specs.Tests.{meets_at}
 use Rattle.words.specs.Words.{region_at}
 use Rattle.kdb.specs.Calls.{window_of}

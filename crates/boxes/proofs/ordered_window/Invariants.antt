@@ -1,4 +1,4 @@
--- `boxes::ordered_window` meets its contract: the loop over the domains is `ordered`.
+-- `boxes::ordered_window`, its loop: the loop over the domains is `ordered`.
 use Rattle.boxes.specs.Tests.{ordered_at}
 use Rattle.kdb.specs.Calls.{window_of, ordered}
 use Rattle.words.specs.Loops.{all_by}

@@ -1,4 +1,4 @@
--- `boxes::point_in` meets its contract: the loop over the domains is `within`.
+-- `boxes::point_in`, its loop: the loop over the domains is `within`.
 use Rattle.boxes.specs.Tests.{holds_at}
 use Rattle.words.specs.Words.{region_at}
 use Rattle.kdb.specs.Box.{within}

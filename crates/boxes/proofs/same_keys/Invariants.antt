@@ -1,4 +1,4 @@
--- `boxes::same_keys` meets its contract: key by key, and out at the first that differs.
+-- `boxes::same_keys`, its loop: key by key, and out at the first that differs.
 use Rattle.boxes.proofs.Tests.{Alike}
 use Rattle.words.specs.Words.{keys_of}
 use Rattle.kdb.specs.Lists.{same}

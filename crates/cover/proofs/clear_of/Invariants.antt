@@ -1,4 +1,4 @@
--- `cover::clear_of` meets its contract: region by region, and out at the first that shares a key.
+-- `cover::clear_of`, its loop: region by region, and out at the first that shares a key.
 use Prim.Native.Nat.{◌-◌}
 use Rattle.words.specs.Words.{region_at}
 use Rattle.cover.specs.Boxes.{regions_at, clear_of}

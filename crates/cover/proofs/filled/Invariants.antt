@@ -1,4 +1,4 @@
--- `cover::filled` meets its contract: the keys of r that are left after each region; none are left exactly if the regions tile.
+-- `cover::filled`, its loop: the keys of r that are left after each region; none are left exactly if the regions tile.
 use Prim.Native.Nat.{◌-◌}
 use Rattle.words.specs.Words.{region_at}
 use Rattle.cover.specs.Boxes.{regions_at}

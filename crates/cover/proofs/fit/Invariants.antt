@@ -1,4 +1,4 @@
--- `cover::fit` meets its contract: region by region, and out at the first that is not inside or shares a key with a later one.
+-- `cover::fit`, its loop: region by region, and out at the first that is not inside or shares a key with a later one.
 use Prim.Native.Nat.{◌-◌}
 use Rattle.words.specs.Words.{region_at}
 use Rattle.cover.specs.Boxes.{regions_at, fitted}

@@ -1,4 +1,4 @@
--- `cover::inside` meets its contract: side by side, and out at the first that is not inside.
+-- `cover::inside`, its loop: side by side, and out at the first that is not inside.
 use Prim.Native.Nat.{◌-◌}
 use Rattle.words.specs.Words.{region_at}
 use Rattle.cover.specs.Boxes.{inside_side, inside_of}

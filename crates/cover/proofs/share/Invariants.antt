@@ -1,4 +1,4 @@
--- `cover::share` meets its contract: side by side, and out at the first that has no common key.
+-- `cover::share`, its loop: side by side, and out at the first that has no common key.
 use Prim.Native.Nat.{◌-◌}
 use Rattle.words.specs.Words.{region_at}
 use Rattle.cover.specs.Boxes.{overlap_side, overlap}

@@ -1,4 +1,4 @@
--- `cover::volume` meets its contract: the product of the sides, which for at most four does not pass two words.
+-- `cover::volume`, its loop: the product of the sides, which for at most four does not pass two words.
 use Prim.Native.Nat.{◌-◌}
 use Rattle.words.specs.Words.{region_at}
 use Rattle.cover.specs.Volume.{Sides}

@@ -1,4 +1,4 @@
--- `deal::copy_part` meets its contract: copies `count` words of src from `from` on over x's words from `at` on, as far as both go: how
+-- `deal::copy_part`, its loop: copies `count` words of src from `from` on over x's words from `at` on, as far as both go: how
 -- many src has.
 use Prim.Native.Nat.{◌≤◌, ◌-◌, ◌+◌}
 use mathlib.Core.Path.{◌≡◌}

@@ -1,4 +1,4 @@
--- `deal::deal_points` meets its contract: the m records of src are dealt out.
+-- `deal::deal_points`, its loop: the m records of src are dealt out.
 use Prim.Native.Nat.{◌≤◌, ◌-◌, ◌+◌, ◌*◌}
 use mathlib.Core.Path.{◌≡◌}
 use lib.ListN.{length}

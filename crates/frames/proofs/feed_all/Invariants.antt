@@ -1,4 +1,4 @@
--- `frames::feed_all` meets its contract: a byte a turn; all that is kept, and the output, are those after the bytes taken.
+-- `frames::feed_all`, its loop: a byte a turn; all that is kept, and the output, are those after the bytes taken.
 use Rattle.frames.proofs.Bytes.{Looping}
 use Rattle.frames.specs.State.{store_of}
 use lib.ListN.{length}

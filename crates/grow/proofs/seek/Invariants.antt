@@ -1,4 +1,4 @@
--- `grow::seek` meets its contract: the place of the first entry of page j whose region holds the point, or 0.
+-- `grow::seek`, its loop: the place of the first entry of page j whose region holds the point, or 0.
 use Prim.Native.Nat.{◌≤◌, ◌<◌, ◌-◌, ◌+◌, ◌*◌, ◌^◌}
 use mathlib.Core.Path.{◌≡◌}
 use Rattle.words.specs.Words.{word}

@@ -1,4 +1,4 @@
--- `korytanka::pass` meets its contract: part by part; all that is kept is that after the bytes fed so far.
+-- `korytanka::pass`, its loop: part by part; all that is kept is that after the bytes fed so far.
 use Rattle.frames.specs.State.{store_of, kept}
 use lib.ListN.{length, take}
 use mathlib.Core.Path.{◌≡◌}

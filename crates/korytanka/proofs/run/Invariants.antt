@@ -1,4 +1,4 @@
--- `korytanka::run` meets its contract: the buffers keep their sizes, and the pool its bound; each turn falls by one.
+-- `korytanka::run`, its loop: the buffers keep their sizes, and the pool its bound; each turn falls by one.
 use mathlib.Core.Path.{◌≡◌}
 use Prim.Native.Nat.{◌≤◌}
 use lib.ListN.{length}

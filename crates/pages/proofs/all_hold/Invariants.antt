@@ -1,4 +1,4 @@
--- `pages::all_hold` meets its contract: domain by domain over all points.
+-- `pages::all_hold`, its loop: domain by domain over all points.
 use Prim.Native.Nat.{◌-◌}
 use lib.ListN.{drop}
 use Rattle.kdb.specs.Lists.{every}

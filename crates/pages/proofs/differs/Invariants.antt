@@ -1,4 +1,4 @@
--- `pages::differs` meets its contract: point by point, and out at the first with the same keys.
+-- `pages::differs`, its loop: point by point, and out at the first with the same keys.
 use Prim.Native.Nat.{◌-◌}
 use lib.ListN.{drop}
 use Rattle.kdb.specs.Pages.{read_recs}

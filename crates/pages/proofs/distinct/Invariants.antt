@@ -1,4 +1,4 @@
--- `pages::distinct` meets its contract: from the last point to the first, with a mark for each first key met.
+-- `pages::distinct`, its loop: from the last point to the first, with a mark for each first key met.
 use Rattle.pages.proofs.Bits.{Done}
 use Rattle.pages.proofs.distinct.Given as goal
 

@@ -1,4 +1,4 @@
--- `pages::side_holds` meets its contract: key by key, and out at the first that is not in the side.
+-- `pages::side_holds`, its loop: key by key, and out at the first that is not in the side.
 use Prim.Native.Nat.{◌-◌}
 use lib.ListN.{drop}
 use Rattle.kdb.specs.Pages.{read_recs}

@@ -1,4 +1,4 @@
--- `pages::twins` meets its contract: key by key, and out at the first that differs.
+-- `pages::twins`, its loop: key by key, and out at the first that differs.
 use Prim.Native.Nat.{◌-◌}
 use Rattle.kdb.specs.Lists.{same}
 use Rattle.pages.specs.Tests.{rec_key}

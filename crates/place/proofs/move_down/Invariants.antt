@@ -1,4 +1,4 @@
--- `place::move_down` meets its contract: the n words behind the wd words at word a move down over them.
+-- `place::move_down`, its loop: the n words behind the wd words at word a move down over them.
 use Prim.Native.Nat.{◌≤◌, ◌-◌, ◌+◌}
 use mathlib.Core.Path.{◌≡◌}
 use lib.ListN.{length}

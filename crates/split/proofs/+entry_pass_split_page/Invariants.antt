@@ -1,4 +1,5 @@
--- `split::entry_pass` and `split::split_page`, which call each other, meet their contracts.
+-- The loop of `split::entry_pass`: the entries passed, then those left, give what all of them give. `split::split_page` and it call each other:
+-- the level falls from page to entries.
 use Prim.Native.Nat.{◌≤◌, ◌-◌, ◌+◌, ◌*◌}
 use mathlib.Core.Path.{◌≡◌}
 use lib.ListN.{length}

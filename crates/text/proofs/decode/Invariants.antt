@@ -1,4 +1,4 @@
--- `text::decode` meets its contract: two digits a turn; what is read and what is left are the line's bytes.
+-- `text::decode`, its loop: two digits a turn; what is read and what is left are the line's bytes.
 use Rattle.text.proofs.Read.{Taken}
 use Rattle.kdb.specs.Frames.{bytes_of}
 use lib.ListN.{length}

@@ -1,4 +1,4 @@
--- `text::put_hex` meets its contract: the last digit first; those still to be written are the digits of what is left.
+-- `text::put_hex`, its loop: the last digit first; those still to be written are the digits of what is left.
 use Rattle.text.proofs.Write.{Hexed}
 use Rattle.text.proofs.put_hex.Given as goal
 

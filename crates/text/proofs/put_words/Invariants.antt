@@ -1,4 +1,4 @@
--- `text::put_words` meets its contract: a word a turn; the texts of the words so far stand in the buffer.
+-- `text::put_words`, its loop: a word a turn; the texts of the words so far stand in the buffer.
 use Rattle.text.proofs.Write.{Worded}
 use Rattle.kdb.specs.Frames.{hex}
 use lib.ListN.{length}

@@ -1,4 +1,4 @@
--- `text::words_of` meets its contract: four bytes a turn; what is read and what is left are the words.
+-- `text::words_of`, its loop: four bytes a turn; what is read and what is left are the words.
 use Rattle.text.proofs.Read.{Taken}
 use Rattle.kdb.specs.Frames.{words_of}
 use lib.ListN.{length}

@@ -1,4 +1,4 @@
--- `walk::list_page` meets its contract: by the level; the state after the pages passed, then those left, is the state after all.
+-- `walk::list_page`, its loop and its measure: the state after the pages passed, then those left, is the state after all; the level falls.
 use Rattle.walk.specs.List.{Kept, seen, each, moved_by}
 use Rattle.kdb.specs.Calls.{L, window_of}
 use Rattle.kdb.specs.Walk.{tour}

@@ -1,4 +1,4 @@
--- `walk::child_for` meets its contract: what is left of the entries gives the child of the whole; what is left ends within the page.
+-- `walk::child_for`, its loop: what is left of the entries gives the child of the whole; what is left ends within the page.
 use Rattle.walk.specs.Seek.{child_of}
 use Rattle.words.specs.Words.{word_at}
 use Rattle.kdb.specs.Calls.{L}

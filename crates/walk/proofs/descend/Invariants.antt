@@ -1,4 +1,4 @@
--- `walk::descend` meets its contract: the walk from the page reached, after the pages read, is the walk from the root.
+-- `walk::descend`, its loop: the walk from the page reached, after the pages read, is the walk from the root.
 use Rattle.walk.specs.Seek.{sought_as}
 use Rattle.kdb.specs.Calls.{L}
 use Rattle.kdb.specs.Walk.{seek}

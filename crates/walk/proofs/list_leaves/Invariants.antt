@@ -1,4 +1,4 @@
--- `walk::list_leaves` meets its contract: the state after the pages passed, then those left, is the state after all.
+-- `walk::list_leaves`, its loop: the state after the pages passed, then those left, is the state after all.
 use Rattle.walk.specs.List.{Kept, seen, each, moved_by}
 use Rattle.kdb.specs.Calls.{L, window_of}
 use Rattle.kdb.specs.Walk.{tour}

@@ -1,4 +1,4 @@
--- `walk::list_points` meets its contract: total and slots, with what is left of the records, are those of the whole.
+-- `walk::list_points`, its loop: total and slots, with what is left of the records, are those of the whole.
 use Rattle.walk.specs.List.{noted, held, found_in}
 use Rattle.words.specs.Words.{word_at}
 use Rattle.kdb.specs.Calls.{window_of}

@@ -1,4 +1,4 @@
--- `walk::meeting` meets its contract: the children that are there, with those of the entries that are left, are those of the whole.
+-- `walk::meeting`, its loop: the children that are there, with those of the entries that are left, are those of the whole.
 use Rattle.walk.specs.List.{children_met}
 use Rattle.words.specs.Words.{word_at}
 use Rattle.kdb.specs.Calls.{L, window_of}

@@ -1,4 +1,4 @@
--- `walk::record_for` meets its contract: what is left of the records gives the end of the whole.
+-- `walk::record_for`, its loop: what is left of the records gives the end of the whole.
 use Rattle.walk.specs.Seek.{ended}
 use Rattle.words.specs.Words.{word_at, records_from}
 use Rattle.kdb.specs.Walk.{spots, spot_of}

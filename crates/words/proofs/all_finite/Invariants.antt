@@ -1,4 +1,4 @@
--- `words::all_finite` meets its contract: word by word, and out at the first that is ∞.
+-- `words::all_finite`, its loop: word by word, and out at the first that is ∞.
 use Rattle.kdb.specs.Calls.{finite}
 use lib.ListN.{length, drop}
 use mathlib.Core.Path.{◌≡◌}

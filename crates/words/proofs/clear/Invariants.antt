@@ -1,4 +1,4 @@
--- `words::clear` meets its contract: what is left to store gives what the whole gives.
+-- `words::clear`, its loop: what is left to store gives what the whole gives.
 use lib.Seq.{sets}
 use lib.ListN.{length, replicate}
 use mathlib.Core.Path.{◌≡◌}

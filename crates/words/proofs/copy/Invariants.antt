@@ -1,4 +1,4 @@
--- `words::copy` meets its contract: what is left to store gives what the whole gives.
+-- `words::copy`, its loop: what is left to store gives what the whole gives.
 use lib.Seq.{sets}
 use lib.ListN.{length, drop}
 use mathlib.Core.Path.{◌≡◌}

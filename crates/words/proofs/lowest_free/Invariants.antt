@@ -1,4 +1,4 @@
--- `words::lowest_free` meets its contract: what is left to search has the answer of the whole.
+-- `words::lowest_free`, its loop: what is left to search has the answer of the whole.
 use Rattle.words.specs.Words.{free_from, lowest}
 use Rattle.kdb.specs.Calls.{L}
 use mathlib.Core.Path.{◌≡◌}

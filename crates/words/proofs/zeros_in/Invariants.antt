@@ -1,4 +1,4 @@
--- `words::zeros_in` meets its contract: what is left to test, with the flag, gives what the whole gives.
+-- `words::zeros_in`, its loop: what is left to test, with the flag, gives what the whole gives.
 use Rattle.words.specs.Words.{zero_at, all_zero}
 use Rattle.words.specs.Loops.{all_by}
 use mathlib.Core.Path.{◌≡◌}
