@@ -47,6 +47,7 @@ fn leaf(p: &[u32], f: Form, j: usize, q: &[u32], b: usize, left: usize) -> Seen
 }
 
 // Page j, that is to have `level` levels and the region at word b of q, and all below it.
+#[tactic(auto, using(crate::proofs::Turns::fresh_within, cover::proofs::Loops::row_first, cover::proofs::Loops::region_first))]
 fn page(
     p: &[u32],
     f: Form,

@@ -132,6 +132,7 @@ fn move_down(pool: &mut [u32], wd: usize, n: usize, a: usize)
 }
 
 // The record in a slot of page j goes: later records move down, the last one's words become zero, and page and header count one less.
+#[tactic(auto, using(crate::proofs::Laws::far))]
 pub fn remove_in(pool: &mut [u32], f: Form, j: usize, slot: usize)
     requires { Fit pool.old f × ((j < 2 ^ 32) × (slot < 2 ^ 32)) }
     ensures { pool.new ≡ remove_in L j slot pool.old }

@@ -1,11 +1,11 @@
 -- `audit::page` meets its contract: page j, that is to have `level` levels and the region at word b of q, and all below it.
-use Prim.Native.Nat.{◌-◌, ◌+◌, ◌*◌}
+use Prim.Native.Nat.{◌-◌}
 use mathlib.Core.Path.{refl, sym, ap, ◌∙◌}
 use native.Mathlib.Nat.{sub-zero}
 use Rattle.kdb.specs.Calls.{L}
 use Rattle.audit.specs.Walk.{page_walk}
 use Rattle.pages.proofs.OnePage.{entries_of}
-use Rattle.cover.proofs.Loops.{row_next, row_first, region_first}
+use Rattle.cover.proofs.Loops.{row_next, region_first}
 use Rattle.audit.proofs.Turns.{fresh_within, entries_end, entries_next, page_bad, page_leaf, page_spoilt, page_entries}
 use native.Mathlib.Omega.{arith}
 use Rattle.audit.proofs.+page.Goals as goal
@@ -27,59 +27,14 @@ region_page-requires t c = let h = c.requires in
 pub returns-then-not-region_page : goal.returns-then-not-region_page
 returns-then-not-region_page t c = rw c.put.ensures (page_spoilt _ _ _ c.requires.0.formed _ _ _ _ (sym c.fresh.ensures ∙ c.if-not-fresh.false) c.if-level-le1.false (sym c.region_page.ensures ∙ c.if-not-region_page.true))
 
-pub overflow_mul-j : goal.overflow_mul-j
-overflow_mul-j t c = let i = fresh_within c.args.p.now c.args.f c.requires.0.formed c.args.j c.args.met.now c.args.s (sym c.fresh.ensures ∙ c.if-not-fresh.false) in omega arith
-
-pub overflow_add-j : goal.overflow_add-j
-overflow_add-j t c = let i = fresh_within c.args.p.now c.args.f c.requires.0.formed c.args.j c.args.met.now c.args.s (sym c.fresh.ensures ∙ c.if-not-fresh.false) in omega arith
-
-pub read-count-requires : goal.read-count-requires
-read-count-requires t c = let i = fresh_within c.args.p.now c.args.f c.requires.0.formed c.args.j c.args.met.now c.args.s (sym c.fresh.ensures ∙ c.if-not-fresh.false) in omega arith
-
-pub overflow_mul-at : goal.overflow_mul-at
-overflow_mul-at t c = let i = fresh_within c.args.p.now c.args.f c.requires.0.formed c.args.j c.args.met.now c.args.s (sym c.fresh.ensures ∙ c.if-not-fresh.false) in omega arith
-
-pub overflow_add-at : goal.overflow_add-at
-overflow_add-at t c = let i = fresh_within c.args.p.now c.args.f c.requires.0.formed c.args.j c.args.met.now c.args.s (sym c.fresh.ensures ∙ c.if-not-fresh.false) in omega arith
-
 pub loop-e-init : goal.loop-e-init
 loop-e-init t c = let h = c.requires in
     let m = entries_of _ _ _ h.0 (fresh_within c.args.p.now c.args.f c.requires.0.formed c.args.j c.args.met.now c.args.s (sym c.fresh.ensures ∙ c.if-not-fresh.false)).number _ c.read-count.result c.read-count.ensures.0 (sym c.region_page.ensures ∙ c.if-not-region_page.false) in
     (omega arith, m.0, refl, simp sub-zero (rw m.1))
 
-pub overflow_mul-k : goal.overflow_mul-k
-overflow_mul-k t c = let r = region_first c.args.p.now c.args.f.domains c.loop-e.at c.read-count.result c.loop-e.e c.loop-e.invariant.1 c.loop-e-test.true in
-    let w = row_first c.args.p.now (2 * c.args.f.domains + 1) c.loop-e.at c.read-count.result c.loop-e.e c.loop-e.invariant.1 c.loop-e-test.true in
-    omega arith
-
-pub overflow_add-at-in-loop-e : goal.overflow_add-at-in-loop-e
-overflow_add-at-in-loop-e t c = let r = region_first c.args.p.now c.args.f.domains c.loop-e.at c.read-count.result c.loop-e.e c.loop-e.invariant.1 c.loop-e-test.true in
-    let w = row_first c.args.p.now (2 * c.args.f.domains + 1) c.loop-e.at c.read-count.result c.loop-e.e c.loop-e.invariant.1 c.loop-e-test.true in
-    omega arith
-
-pub read-requires : goal.read-requires
-read-requires t c = let r = region_first c.args.p.now c.args.f.domains c.loop-e.at c.read-count.result c.loop-e.e c.loop-e.invariant.1 c.loop-e-test.true in
-    let w = row_first c.args.p.now (2 * c.args.f.domains + 1) c.loop-e.at c.read-count.result c.loop-e.e c.loop-e.invariant.1 c.loop-e-test.true in
-    omega arith
-
 pub page-u-requires : goal.page-u-requires
 page-u-requires t c = let d = c.if-level-le1.false in
     (omega arith, (c.requires.0, region_first c.args.p.now c.args.f.domains c.loop-e.at c.read-count.result c.loop-e.e c.loop-e.invariant.1 c.loop-e-test.true))
-
-pub overflow_mul-at-in-loop-e : goal.overflow_mul-at-in-loop-e
-overflow_mul-at-in-loop-e t c = let r = region_first c.args.p.now c.args.f.domains c.loop-e.at c.read-count.result c.loop-e.e c.loop-e.invariant.1 c.loop-e-test.true in
-    let w = row_first c.args.p.now (2 * c.args.f.domains + 1) c.loop-e.at c.read-count.result c.loop-e.e c.loop-e.invariant.1 c.loop-e-test.true in
-    omega arith
-
-pub overflow_add-at-in-loop-e-2 : goal.overflow_add-at-in-loop-e-2
-overflow_add-at-in-loop-e-2 t c = let r = region_first c.args.p.now c.args.f.domains c.loop-e.at c.read-count.result c.loop-e.e c.loop-e.invariant.1 c.loop-e-test.true in
-    let w = row_first c.args.p.now (2 * c.args.f.domains + 1) c.loop-e.at c.read-count.result c.loop-e.e c.loop-e.invariant.1 c.loop-e-test.true in
-    omega arith
-
-pub overflow_add-at-in-loop-e-3 : goal.overflow_add-at-in-loop-e-3
-overflow_add-at-in-loop-e-3 t c = let r = region_first c.args.p.now c.args.f.domains c.loop-e.at c.read-count.result c.loop-e.e c.loop-e.invariant.1 c.loop-e-test.true in
-    let w = row_first c.args.p.now (2 * c.args.f.domains + 1) c.loop-e.at c.read-count.result c.loop-e.e c.loop-e.invariant.1 c.loop-e-test.true in
-    omega arith
 
 pub loop-e-preserved : goal.loop-e-preserved
 loop-e-preserved t c = let i = c.loop-e.invariant in
