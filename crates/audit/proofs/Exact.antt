@@ -1,14 +1,15 @@
 -- The audit is exact: with a good length and a good header it says yes exactly on the sound pools, `audit_iff` and `audit_is`.
-use mathlib.Core.Bool.{true, false, ◌&&◌, not}
+use mathlib.Core.Bool.{Bool, true, false, ◌&&◌}
 use mathlib.Core.List.{List, [], ◌∷◌, map}
 use mathlib.Core.Logic.{◌↔◌, ◌⊎◌, inl, inr}
 use mathlib.Core.Option.{some}
-use mathlib.Core.Path.{◌≡◌, refl, sym, ap, ◌∙◌, subst}
-use Prim.Native.Nat.{ℕ, zero, suc, ◌-◌, ◌<◌, ◌≤◌}
+use Rattle.std.specs.Prelude.{Option, Some, None}
+use mathlib.Core.Path.{◌≡◌, refl, sym, ap, ap₂, ◌∙◌, subst}
+use Prim.Native.Nat.{ℕ, zero, suc, ◌+◌, ◌-◌, ◌<◌, ◌≤◌}
 use native.Mathlib.Omega.{arith}
-use lib.Dec.{T, leb, ltb, eqb, leb→le, le→leb, ltb→lt, lt→ltb, eqb→eq, T_not}
+use lib.Dec.{T, leb, ltb, eqb, leb→le, le→leb, ltb→lt, lt→ltb, eqb→eq, T_not, not_T}
 use lib.ListN.{length, get_or, length-map, get_or-replicate, get_or-eq_default}
-use borrow.Author.Tests.{eq-eqb, ne_eqb, ltb-true, ltb-false, eqb-true, eqb-false}
+use borrow.Author.Tests.{ne_eqb, ltb-true, ltb-false, eqb-true, eqb-false}
 use Rattle.kdb.specs.Lists.{bit, every, Each, gather, many}
 use Rattle.kdb.specs.Box.{∞, Box, whole, within, solid}
 use Rattle.kdb.specs.Tiling.{Apart, Together}
@@ -21,7 +22,7 @@ use Rattle.kdb.specs.declared.Form.{Form}
 use Rattle.kdb.proofs.Length.{big}
 use Rattle.words.specs.Words.{Fit}
 use Rattle.words.proofs.Laws.{pages}
-use Rattle.kdb.proofs.Tests.{and_l, and_r, and_i, bool, is_true, is_false, of_true, of_bit, no_bit, bool_eq}
+use Rattle.kdb.proofs.Tests.{and_l, and_r, and_i, bool, is_true, is_false, of_true, of_bit, to_bit, no_bit, bit_most, bool_eq}
 use Rattle.kdb.proofs.Lists.{each_map, each_every, every_each}
 use Rattle.kdb.proofs.Counts.{many_append, every_up, up_every, sum_once}
 use Rattle.kdb.proofs.Stores.{zeros_pad, pad_zeros}
@@ -29,11 +30,11 @@ use Rattle.kdb.proofs.Pages.{FitsPage, read_page_lem, page_full}
 use Rattle.kdb.proofs.Views.{Under, whole_under, tiles_under, whole_finite, among}
 use Rattle.kdb.proofs.Stands.{Stands}
 use Rattle.kdb.proofs.Pool.{length_iff, header_iff, boxes_at_page, used_number, Sound_stands, sound_iff}
-use Rattle.audit.specs.Walk.{calm, root_walk, cleared_of, rest_of, unmarked, audited}
+use Rattle.audit.specs.Walk.{Way, root_walk, all_found, cleared_of, rest_of, unmarked, audited}
 use Rattle.pages.proofs.Here.{PointsHere, RegionsHere, points_say, say_points, regions_say, say_regions}
-use Rattle.audit.proofs.Marks.{Marks, done, marks_nil, Adds, adds, marks_inside, marks}
+use Rattle.audit.proofs.Marks.{Marks, done, marks_nil, adds, marks_inside, marks}
 use Rattle.pages.proofs.Bits.{case}
-use Rattle.audit.proofs.Walks.{no_recs, Shown, recs_at, points_on, Good, page_shows, page_runs}
+use Rattle.audit.proofs.Walks.{some_is, no_recs, Shown, recs_at, points_on, Good, page_shows, page_runs}
 
 -- a page of one kind has nothing of the other
 no_ents : (v : Page) → T (is_points v) → ents_in v ≡ []
@@ -241,65 +242,73 @@ module _ (L : ℕ) (w : List ℕ) (long : T (good_length L w)) (head : T (good_h
         }
 
   -- the marks before a walk
-  clear : (y : ℕ) → get_or unmarked y 0 ≡ 0
-  clear y = case (ltb y 512) (λ e. get_or-replicate 512 y 0 0 (ltb-true y 512 e)) (λ e. get_or-eq_default unmarked 0 (ltb-false y 512 e))
+  clear : (y : ℕ) → get_or unmarked y false ≡ false
+  clear y = case (ltb y 512) (λ e. get_or-replicate 512 y false false (ltb-true y 512 e)) (λ e. get_or-eq_default unmarked false (ltb-false y 512 e))
 
   room : pages_in L w ≤ length unmarked
   room = ((length_iff L w).0 long).most
 
-  walk_shows : (m : List ℕ) → (root_walk L w m).0.bad ≡ false
-      → Shown (pages_in L w) ((levels_at w ≡ 0 → ⊥) → Good L w (levels_at w - 1) (root_at w) (whole (domains w))) (reached L w) (points_on L w (reached L w)) (calm (count_at w)) m (root_walk L w m)
+  walk_shows : (left' : ℕ) (m m' : List Bool) → root_walk L w m ≡ (Some left', m')
+      → Shown (pages_in L w) ((levels_at w ≡ 0 → ⊥) → Good L w (levels_at w - 1) (root_at w) (whole (domains w))) (reached L w) (points_on L w (reached L w)) (count_at w) left' m m'
   unfolding root_walk
-  walk_shows m h =
+  walk_shows left' m m' h =
       case (eqb (levels_at w) 0)
-      (λ e. rw e (record { calmly = refl; good = λ z. absurd (z (eqb-true (levels_at w) 0 e)); marks = done; count = omega arith }))
-      (λ e. let s = page_shows L w (levels_at w - 1) (root_at w) (whole (domains w)) (calm (count_at w)) m (rw e at h) in
-      rw e (record { calmly = s.calmly; good = λ z. s.good; marks = s.marks; count = s.count }))
+      (λ e. let k : ◌≡◌ {A = Way} (Some (count_at w), m) (Some left', m') = rw e at h in
+      let i : count_at w ≡ left' = some_is (ap (λ t. t.0) k) in
+      rw (e, ← ap (λ t. t.1) k) (record { good = λ z. absurd (z (eqb-true (levels_at w) 0 e)); marks = done; count = omega arith }))
+      (λ e. let s = page_shows L w (levels_at w - 1) (root_at w) (whole (domains w)) (count_at w) left' m m' (rw e at h) in
+      rw e (record { good = λ z. s.good; marks = s.marks; count = s.count }))
 
-  walk_runs : (m m' : List ℕ) → ((levels_at w ≡ 0 → ⊥) → Good L w (levels_at w - 1) (root_at w) (whole (domains w))) → Marks (pages_in L w) (reached L w) m m'
-      → count_at w ≡ points_on L w (reached L w) → root_walk L w m ≡ (calm 0, m')
+  walk_runs : (m m' : List Bool) → ((levels_at w ≡ 0 → ⊥) → Good L w (levels_at w - 1) (root_at w) (whole (domains w))) → Marks (pages_in L w) (reached L w) m m'
+      → count_at w ≡ points_on L w (reached L w) → root_walk L w m ≡ (Some 0, m')
   unfolding root_walk
   walk_runs m m' g r c =
       case (eqb (levels_at w) 0)
       (λ e. let r' : Marks (pages_in L w) [] m m' = rw e at r in let c' : count_at w ≡ 0 = rw e at c in
-      rw e (ap (λ x. (calm x, m)) c' ∙ ap (λ y. (calm 0, y)) (marks_nil r')))
+      rw e (ap₂ (λ x y. (Some x, y)) c' (marks_nil r')))
       (λ e. let r' : Marks (pages_in L w) (reached_from L w (levels_at w - 1) (root_at w)) m m' = rw e at r in
       let c' : count_at w ≡ points_on L w (reached_from L w (levels_at w - 1) (root_at w)) = rw e at c in
       rw e (page_runs L w (levels_at w - 1) (root_at w) (whole (domains w)) (count_at w) 0 m m' (g (eqb-false (levels_at w) 0 e)) r' (omega arith)))
 
-  free_says : (m : List ℕ) (j : ℕ) → T (cleared_of L w m j) → get_or m j 0 ≡ 0 → T (every (eqb 0) (page L w j))
+  free_says : (m : List Bool) (j : ℕ) → T (cleared_of L w m j) → get_or m j false ≡ false → T (every (eqb 0) (page L w j))
   unfolding cleared_of
-  free_says m j h z = rw (eq-eqb (get_or m j 0) 0 z) at h
+  free_says m j h z = rw z at h
 
-  says_free : (m : List ℕ) (j : ℕ) → (get_or m j 0 ≡ 0 → T (every (eqb 0) (page L w j))) → T (cleared_of L w m j)
+  says_free : (m : List Bool) (j : ℕ) → (get_or m j false ≡ false → T (every (eqb 0) (page L w j))) → T (cleared_of L w m j)
   unfolding cleared_of
-  says_free m j f = case (eqb (get_or m j 0) 0) (λ e. rw e (f (eqb-true (get_or m j 0) 0 e))) (λ e. rw e tt)
+  says_free m j f = case (get_or m j false) (λ e. rw e tt) (λ e. rw e (f e))
+
+  -- a mark of a page that was not reached
+  no_mark : (m : List Bool) (j : ℕ) → bit (get_or m j false) ≡ many j (reached L w) + bit (get_or unmarked j false) → many j (reached L w) ≡ 0 → get_or m j false ≡ false
+  no_mark m j a z = is_false (get_or m j false) (not_T (get_or m j false) (λ t. absurd (omega (arith, to_bit (get_or m j false) t, ap bit (clear j)))))
+
+  found : (o : Option ℕ) → T (all_found o) → o ≡ Some 0
+  found None h = absurd h
+  found (Some left) h = ap Some (eqb→eq left 0 h)
 
   audit_passed : T (audited L w) → Passed
   unfolding audited rest_of
   audit_passed h =
       let t = root_walk L w unmarked in
-      let calmly = is_false t.0.bad (and_l (not t.0.bad) _ (and_l (not t.0.bad && eqb t.0.left 0) _ h)) in
-      let zero : t.0.left ≡ 0 = eqb→eq t.0.left 0 (and_r (not t.0.bad) _ (and_l (not t.0.bad && eqb t.0.left 0) _ h)) in
-      let s = walk_shows unmarked calmly in
-      let a : (y : ℕ) → Adds y (reached L w) unmarked t.1 = λ y. adds (pages_in L w) y (reached L w) unmarked t.1 s.marks room (omega (arith, clear y)) in
+      let q : t ≡ (Some 0, t.1) = ap (λ o. (o, t.1)) (found t.0 (and_l (all_found t.0) _ h)) in
+      let s = walk_shows 0 unmarked t.1 q in
+      let a : (y : ℕ) → bit (get_or t.1 y false) ≡ many y (reached L w) + bit (get_or unmarked y false) = λ y. adds (pages_in L w) y (reached L w) unmarked t.1 s.marks room in
       record {
         good = s.good;
         inside = λ y i. marks_inside (pages_in L w) y (reached L w) unmarked t.1 s.marks i;
-        once = λ y. omega (arith, (a y).sum, (a y).most, clear y);
-        count = omega (arith, s.count, zero);
-        free = λ j x y o. free_says t.1 j (every_up (cleared_of L w t.1) (pages_in L w - 1) 1 (and_r (not t.0.bad && eqb t.0.left 0) _ h) j x (omega arith))
-            (omega (arith, (a j).sum, clear j));
+        once = λ y. omega (arith, a y, bit_most (get_or t.1 y false));
+        count = omega (arith, s.count);
+        free = λ j x y o. free_says t.1 j (every_up (cleared_of L w t.1) (pages_in L w - 1) 1 (and_r (all_found t.0) _ h) j x (omega arith)) (no_mark t.1 j (a j) o);
       }
 
   passed_audit : Passed → T (audited L w)
   unfolding audited rest_of
   passed_audit p =
-      let m = marks (pages_in L w) (reached L w) unmarked room p.inside (λ y. omega (arith, p.once y, clear y)) in
-      let e : root_walk L w unmarked ≡ (calm 0, m.0) = walk_runs unmarked m.0 p.good m.1 p.count in
-      let a : (y : ℕ) → Adds y (reached L w) unmarked m.0 = λ y. adds (pages_in L w) y (reached L w) unmarked m.0 m.1 room (omega (arith, clear y)) in
+      let m = marks (pages_in L w) (reached L w) unmarked room p.inside (λ y. omega (arith, p.once y, ap bit (clear y))) in
+      let e : root_walk L w unmarked ≡ (Some 0, m.0) = walk_runs unmarked m.0 p.good m.1 p.count in
+      let a : (y : ℕ) → bit (get_or m.0 y false) ≡ many y (reached L w) + bit (get_or unmarked y false) = λ y. adds (pages_in L w) y (reached L w) unmarked m.0 m.1 room in
       rw e (up_every (cleared_of L w m.0) (pages_in L w - 1) 1
-      (λ j x y. says_free m.0 j (λ o. p.free j x (omega arith) (omega (arith, (a j).sum, clear j)))))
+      (λ j x y. says_free m.0 j (λ o. p.free j x (omega arith) (omega (arith, a j, ap bit o)))))
 
 module _ (L : ℕ) (w : List ℕ) (S : Sound L w) where
   abbrev ShapedGood : ℕ → Type 0
@@ -358,7 +367,7 @@ audit_is L big w long head =
     let s = sound_iff L big w in
     bool_eq (audited L w) (sound L w) (λ h. s.1 (a.0 h)) (λ h. a.1 (s.0 h))
 
--- the same of a pool of form f, as code has it
+-- the same of a pool that is fit, as code has it
 pub audit_says : (w : List ℕ) (f : Form) → Fit w f → good_header Calls.L w ≡ true → audited Calls.L w ≡ sound Calls.L w
 audit_says w f h e =
     let g = h.formed in

@@ -2,139 +2,101 @@
 
 // The audit of a pool: whether it is sound, for every pool. One walk from the root with a mark for each page met, so that no page is looked
 // at twice; then the pages not met are all zero.
-ghost use Rattle.std.specs.Prelude.{◌≡◌, true, false, ◌+◌, ◌*◌, ◌-◌, ◌<◌};
-ghost use Rattle.kdb.specs.Pool.{good_header};
+ghost use Rattle.std.specs.Prelude.{◌≡◌, true, ◌-◌, ◌≤◌, length};
+ghost use Rattle.kdb.specs.Pool.{domains, good_header, pages_in};
 ghost use Rattle.kdb.specs.Print.{sound};
 ghost use Rattle.kdb.specs.Calls.{L};
-ghost use Rattle.words.specs.Words.{region_at, Formed, Fit, RegionIn};
 ghost use Rattle.pages.specs.Tests.{PageOf};
-ghost use Rattle.audit.specs.Walk.{fresh_of, leaf_of, page_walk, root_walk, cleared_of, rest_of};
+ghost use Rattle.audit.specs.Walk.{fresh_of, leaf_of, page_walk, root_walk, rest_of};
 
-use kdb::Form;
+use boxes::Sides;
 use pages::{point_page, region_page};
-use words::{WHOLE, get, put, read, zeros};
+use words::{Pool, WHOLE, zeros};
 
-// What a walk has met: whether a page was bad, and how many points are still to be found.
-#[derive(Clone, Copy)]
-pub struct Seen {
-    pub bad: bool,
-    pub left: usize,
-}
-
-// Page j may be looked at: no page was bad, and j is the number of a page that was not met.
-fn fresh(f: Form, j: usize, met: &[u32], s: Seen) -> bool
-    ensures { result ≡ fresh_of f.pages j met.now s }
+// Page j may be looked at: j is the number of a page that was not met.
+fn fresh(pool: &Pool, j: usize, met: &[bool]) -> bool
+    requires { pages_in L pool.now ≤ length met.now }
+    ensures { result ≡ fresh_of (pages_in L pool.now) j met.now }
 {
-    !s.bad & (j != 0) & (j < f.pages) & (get(met, j) == 0)
+    j != 0 && j < pool.pages() && !met[j]
 }
 
-// The points of page j are found.
-fn leaf(p: &[u32], f: Form, j: usize, q: &[u32], b: usize, left: usize) -> Seen
-    requires { Fit p.now f × (PageOf f j × RegionIn q.now f.domains b) }
-    ensures { result ≡ leaf_of L p.now j (region_at f.domains q.now b) left }
+// The points of page j are found: how many of `left` there are still to find.
+fn leaf(pool: &Pool, j: usize, region: &Sides, left: usize) -> Option<usize>
+    requires page { PageOf pool.now j }
+    requires sides { length region.now ≡ domains pool.now }
+    ensures { result ≡ leaf_of L pool.now j region.now left }
 {
-    if !point_page(p, f, j, q, b) {
-        return Seen { bad: true, left };
+    if !point_page(pool, j, region) {
+        return None;
     }
-    let count = read(p, 32 * j + 1);
-    if left < count {
-        return Seen { bad: true, left };
-    }
-    Seen {
-        bad: false,
-        left: left - count,
-    }
+    let words = pool.words;
+    left.checked_sub(words[32 * j + 1] as usize)
 }
 
-// Page j, that is to have `level` levels and the region at word b of q, and all below it.
-#[tactic(auto, using(crate::proofs::Turns::fresh_within, cover::proofs::Loops::row_first, cover::proofs::Loops::region_first))]
+// Page j, that is to have `level` levels and the region, and all below it: how many of `left` points there are still to find, none where a
+// page is bad.
 fn page(
-    p: &[u32],
-    f: Form,
+    pool: &Pool,
     level: usize,
     j: usize,
-    q: &[u32],
-    b: usize,
-    met: &mut [u32],
-    s: Seen,
-) -> Seen
-    requires { Fit p.now f × RegionIn q.now f.domains b }
-    ensures { (result, met.new) ≡ page_walk L p.now (level - 1) j (region_at f.domains q.now b) s met.old }
+    region: &Sides,
+    met: &mut [bool],
+    mut left: usize,
+) -> Option<usize>
+    requires room { pages_in L pool.now ≤ length met.old }
+    requires sides { length region.now ≡ domains pool.now }
+    ensures { (result, met.new) ≡ page_walk L pool.now (level - 1) j region.now left met.old }
 {
-    let k = f.domains;
-    let left = s.left;
-    if !fresh(f, j, met, s) {
-        return Seen { bad: true, left };
+    if !fresh(pool, j, met) {
+        return None;
     }
-    put(met, j, 1);
+    met[j] = true;
     if level <= 1 {
-        return leaf(p, f, j, q, b, left);
+        return leaf(pool, j, region, left);
     }
-    if !region_page(p, f, j, q, b) {
-        return Seen { bad: true, left };
+    let k = pool.domains();
+    let entries = region_page(pool, j, region)?;
+    for entry in entries.chunks_exact(2 * k + 1) {
+        let child = entry[2 * k] as usize;
+        let part = Sides::region(entry, k, 0);
+        left = page(pool, level - 1, child, &part, met, left)?;
     }
-    let count = read(p, 32 * j + 1);
-    let mut u = Seen { bad: false, left };
-    let mut at = 32 * j + 4;
-    let mut e: usize = 0;
-    while e < count {
-        u = page(p, f, level - 1, read(p, at + 2 * k), p, at, met, u);
-        at += 2 * k + 1;
-        e += 1;
-    }
-    u
+    Some(left)
 }
 
-// All that the header's root names.
-fn walk(p: &[u32], f: Form, met: &mut [u32]) -> Seen
-    requires { Fit p.now f }
-    ensures { (result, met.new) ≡ root_walk L p.now met.old }
+// All that the header's root names, by word 4 the points to find.
+fn walk(pool: &Pool, met: &mut [bool]) -> Option<usize>
+    requires { pages_in L pool.now ≤ length met.old }
+    ensures { (result, met.new) ≡ root_walk L pool.now met.old }
 {
-    let left = get(p, 4);
-    let levels = get(p, 3);
-    let s = Seen { bad: false, left };
+    let words = pool.words;
+    let left = words[4] as usize;
+    let levels = words[3] as usize;
     if levels == 0 {
-        return s;
+        return Some(left);
     }
-    page(p, f, levels, get(p, 2), &WHOLE, 4 - f.domains, met, s)
-}
-
-// Page j was met, or is all zero.
-fn free(p: &[u32], f: Form, met: &[u32], j: usize) -> bool
-    requires { Formed p.now f × PageOf f j }
-    ensures { result ≡ cleared_of L p.now met.now j }
-{
-    if get(met, j) != 0 {
-        return true;
-    }
-    zeros(p, 32 * j, 32 * j + 32)
+    let k = pool.domains();
+    let whole = Sides::region(&WHOLE, k, 4 - k);
+    page(pool, levels, words[2] as usize, &whole, met, left)
 }
 
 // Every page behind the header that was not met is all zero.
-fn rest(p: &[u32], f: Form, met: &[u32]) -> bool
-    requires { Formed p.now f }
-    ensures { result ≡ rest_of L p.now met.now }
+fn rest(pool: &Pool, met: &[bool]) -> bool
+    requires { pages_in L pool.now ≤ length met.now }
+    ensures { result ≡ rest_of L pool.now met.now }
 {
-    let n = f.pages;
-    let mut ok = true;
-    let mut j: usize = 1;
-    while j < n {
-        ok = ok & free(p, f, met, j);
-        j += 1;
-    }
-    ok
+    let words = pool.words;
+    (1..pool.pages()).all(|j| met[j] || zeros(words, 32 * j, 32 * j + 32))
 }
 
-// A pool of form f with a good header is sound.
-pub fn audit(p: &[u32], f: Form) -> bool
-    requires { Fit p.now f × (good_header L p.now ≡ true) }
-    ensures { result ≡ sound L p.now }
+// A pool with a good header is sound.
+pub fn audit(pool: &Pool) -> bool
+    requires { good_header L pool.now ≡ true }
+    ensures { result ≡ sound L pool.now }
 {
-    let mut met: [u32; 512] = [0; 512];
-    let s = walk(p, f, &mut met);
-    let left = s.left;
-    if s.bad | (left != 0) {
-        return false;
-    }
-    rest(p, f, &met)
+    // A pool of its form has no more pages than there are marks.
+    let _ = &pool.form;
+    let mut met = [false; 512];
+    walk(pool, &mut met) == Some(0) && rest(pool, &met)
 }

@@ -1,5 +1,4 @@
-pub mod Loops
+pub mod Entries
 pub mod Grid
+pub mod Sides
 pub mod Tile
-pub mod Amounts
-pub mod Regions

@@ -5,7 +5,6 @@ use mathlib.Core.Path.{◌≡◌, refl, sym, ap₂, ◌∙◌, subst}
 use Prim.Native.Nat.{◌-◌, ◌<◌, ◌≤◌, min, max}
 use native.Mathlib.Omega.{arith}
 use lib.Dec.{T, leb, ltb, eqb, leb→le, le→leb, ltb→lt, lt→ltb, eqb→eq, T_not}
-use lib.ListN.{length}
 use borrow.Author.Tests.{eq-eqb}
 use Rattle.kdb.specs.Lists.{bit, every, Each}
 use Rattle.kdb.specs.Box.{Side, Box, Key, within, solid}
@@ -141,11 +140,6 @@ fit_is r bs =
     (λ t. let m = fit_three r bs t in and_i (every solid bs && apart bs) _ (and_i (every solid bs) _ m.solids m.parted) m.inner)
     (λ t. let u = and_l (every solid bs && apart bs) _ t in
     three_fit r bs (record { solids = and_l (every solid bs) _ u; parted = and_r (every solid bs) _ u; inner = and_r (every solid bs && apart bs) _ t }))
-
--- a region with a region inside holds a key
-pub fit_solid : (r : Box) (bs : List Box) → 1 ≤ length bs → T (fitted r bs) → T (solid r)
-fit_solid r [] h t = absurd (omega arith)
-fit_solid r (e ∷ es) h t = (inside_says e r (and_l (inside_of e r) _ (and_l (inside_of e r && clear_of e es) _ t))).outer
 
 pub tiles_no : (r : Box) (bs : List Box) → fitted r bs ≡ false → false ≡ tiles r bs
 tiles_no r bs e = rw (sym (fit_is r bs) ∙ e)

@@ -1,18 +1,15 @@
 -- The regions of a page in words, and the tests of them, side by side and one after the other.
-use Rattle.std.specs.Prelude.{Bool, true, false, ◌&&◌, not, List, [], ◌∷◌, map, ℕ, ◌+◌, ◌*◌, ◌≤◌, ◌<◌, ◌^◌, leb, ltb, length, drop}
+use Rattle.std.specs.Prelude.{Bool, true, false, ◌&&◌, not, List, [], ◌∷◌, map, ℕ, ◌+◌, ◌*◌, ◌/◌, leb, ltb, length}
 use Rattle.kdb.specs.Lists.{every}
 use Rattle.kdb.specs.Box.{Side, Box}
-use Rattle.kdb.specs.Pages.{read_ents}
+use Rattle.kdb.specs.Pages.{Ent, read_ents}
 
--- n regions from word a on
-abbrev pub regions_at : ℕ → ℕ → List ℕ → ℕ → List Box
-regions_at k n w a = map (λ e. e.box) (read_ents k n (drop a w))
+-- the entries that stand in words one behind the other, and their regions; words behind the last whole entry count for nothing
+abbrev pub ents_of : ℕ → List ℕ → List Ent
+ents_of k ws = read_ents k (length ws / (2 * k + 1)) ws
 
--- count entries of d words from word a on end within the words
-pub record Run (w : List ℕ) (d a count : ℕ) : Type 0 where
-  pub wide : d ≤ 9
-  pub near : length w < 2 ^ 40
-  pub ends : a + count * d ≤ length w
+abbrev pub regions_of : ℕ → List ℕ → List Box
+regions_of k ws = map (λ e. e.box) (ents_of k ws)
 
 -- a test of each side of one region and that of the other
 abbrev pub side_by_side : (Side → Side → Bool) → Box → Box → Bool

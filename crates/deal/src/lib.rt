@@ -2,226 +2,176 @@
 
 // Dealing out a page along a cut: a page is claimed, and the entries go from a copy of the page to the two sides, each behind the last one
 // there; an entry that crosses goes to both, as halves.
-ghost use Rattle.std.specs.Prelude.{◌&&◌, cond, ◌≡◌, ◌+◌, ◌*◌, ◌≤◌, ◌<◌, ◌^◌, leb, ltb, length, take, drop, get_or, set};
+ghost use Rattle.std.specs.Prelude.{◌&&◌, ◌≡◌, ◌+◌, ◌*◌, ◌≤◌, ◌<◌, ◌^◌, IfOk, ltb, length, take, drop, get_or, set};
 ghost use Rattle.std.proofs.lemmas.List.Edits.{sets};
 ghost use Rattle.kdb.specs.Calls.{L};
+ghost use Rattle.kdb.specs.declared.Refusal.TheVariants.{NoFreePage};
 ghost use Rattle.steps.specs.Machine.{fresh_in, append_in};
 ghost use Rattle.steps.specs.Claim.{claim_in};
 ghost use Rattle.steps.specs.Split.{points_in, part_points};
-ghost use Rattle.words.specs.Words.{Formed};
-ghost use Rattle.deal.specs.Part.{claimed, open_in, half_in, both_in, Along};
+ghost use Rattle.words.specs.Words.{Formed, code_of};
+ghost use Rattle.deal.specs.Part.{claimed, open_in, half_in, both_in, PageIn};
 
-use kdb::Form;
-use words::{clear, get, less, lowest_free, put, smaller, word};
+use cut::Cut;
+use kdb::{Form, Refusal};
+use words::{Kind, clear, get, lowest_free, put, word};
 
-// Copies `count` words of src from `from` on over x's words from `at` on, as far as both go: how many src has.
-pub fn copy_part(x: &mut [u32], at: usize, src: &[u32], from: usize, count: usize) -> usize
-    requires { (at < 2 ^ 41) × ((from < 2 ^ 41) × (count ≤ 48)) }
-    ensures { (x.new ≡ sets x.old at (take count (drop from src.now))) × ((result ≡ length (take count (drop from src.now))) × (result ≤ count)) }
-{
-    let n = smaller(count, less(src.len(), from));
-    let mut i: usize = 0;
-    while i < n {
-        put(x, at + i, get(src, from + i));
-        i += 1;
+// A page is wanting.
+#[derive(Clone, Copy, Debug, PartialEq, Eq)]
+pub struct Wanting;
+
+impl From<Wanting> for Refusal {
+    ghost from_gives = { λ _ r. r ≡ NoFreePage };
+
+    fn from(_: Wanting) -> Refusal {
+        Refusal::NoFreePage
     }
-    n
+}
+
+// The words of src from `at` on, `count` at most.
+pub fn part(src: &[u32], at: usize, count: usize) -> &[u32]
+    ensures { result.now ≡ take count (drop at src.now) }
+{
+    let start = at.min(src.len());
+    let n = count.min(src.len() - start);
+    &src[start..start + n]
+}
+
+// Stores the words of src over x's from `at` on, as far as x goes.
+#[tactic(auto, using(crate::proofs::Laws::store_is))]
+pub fn store(x: &mut [u32], at: usize, src: &[u32])
+    ensures { x.new ≡ sets x.old at src.now }
+{
+    let start = at.min(x.len());
+    let n = src.len().min(x.len() - start);
+    x[start..start + n].copy_from_slice(&src[..n]);
 }
 
 // Page c becomes a page of that kind and splitting domain with no entry.
-pub fn fresh(pool: &mut [u32], c: usize, kind: usize, e: usize)
-    requires { (c < 2 ^ 32) × ((kind < 2 ^ 32) × (e < 2 ^ 32)) }
-    ensures { pool.new ≡ fresh_in L pool.old c kind e }
+#[tactic(auto, using(crate::proofs::Laws::fresh_is))]
+pub fn fresh(pool: &mut [u32], c: usize, kind: Kind, e: usize)
+    requires { (c < 2 ^ 32) × (e < 2 ^ 32) }
+    ensures { pool.new ≡ fresh_in L pool.old c (code_of kind) e }
 {
     clear(pool, 32 * c, 32 * c + 32);
-    put(pool, 32 * c, kind);
+    put(pool, 32 * c, kind as usize);
     put(pool, 32 * c + 2, e);
 }
 
-// Claims the lowest free page, or answers 0.
-pub fn claim(pool: &mut [u32], f: Form, kind: usize, e: usize) -> usize
-    requires { Formed pool.old f × ((kind < 2 ^ 32) × (e < 2 ^ 32)) }
-    ensures { (claimed result pool.new ≡ claim_in L f.pages kind e pool.old) × (result < f.pages) }
+// Claims the lowest free page.
+#[tactic(auto, using(crate::proofs::Laws::claim_none, crate::proofs::Laws::claim_some))]
+pub fn claim(pool: &mut [u32], f: Form, kind: Kind, e: usize) -> Result<usize, Wanting>
+    requires { Formed pool.old f × (e < 2 ^ 32) }
+    ensures words { claimed result pool.new ≡ claim_in L f.pages (code_of kind) e pool.old }
+    ensures page { IfOk result (PageIn f) }
 {
-    let r = lowest_free(pool, f.pages);
-    if r == f.pages {
-        return 0;
-    }
+    let r = lowest_free(pool, f.pages).ok_or(Wanting)?;
     fresh(pool, r, kind, e);
-    r
+    Ok(r)
 }
 
-// The entry of wd words at word a of src goes behind the last entry of page c, unless the page ends there.
-pub fn append(pool: &mut [u32], wd: usize, c: usize, src: &[u32], a: usize)
-    requires { (1 ≤ wd) × ((wd ≤ 9) × ((c < 2 ^ 32) × (a < 2 ^ 40))) }
-    ensures { pool.new ≡ append_in L wd pool.old c (take wd (drop a src.now)) }
+// The entry goes behind the last entry of page c, whose entries are of wd words, unless the page ends there.
+#[tactic(auto, using(crate::proofs::Laws::small, crate::proofs::Laws::fewer, crate::proofs::Laws::near), unfolding(steps::specs::Machine::append_in))]
+pub fn append(pool: &mut [u32], wd: usize, c: usize, entry: &[u32])
+    requires { (1 ≤ wd) × ((wd ≤ 9) × (c < 2 ^ 32)) }
+    ensures { pool.new ≡ append_in L wd pool.old c entry.now }
 {
     let m = word(pool, c, 1);
     if 4 + (m + 1) * wd <= 32 {
-        copy_part(pool, 32 * c + (4 + m * wd), src, a, wd);
+        store(pool, 32 * c + (4 + m * wd), entry);
         put(pool, 32 * c + 1, m + 1);
     }
 }
 
-// Claims the right page, and clears page j for the left: the right page, or 0.
-pub fn open_pages(pool: &mut [u32], f: Form, kind: usize, e: usize, j: usize) -> usize
-    requires { Formed pool.old f × ((kind < 2 ^ 32) × ((e < 2 ^ 32) × (j < 2 ^ 32))) }
-    ensures { (claimed result pool.new ≡ open_in f.pages kind e j pool.old) × (result < f.pages) }
+// Claims the right page, and clears page j for the left: the right page.
+#[tactic(auto, using(crate::proofs::Laws::open_none))]
+pub fn open_pages(
+    pool: &mut [u32],
+    f: Form,
+    kind: Kind,
+    e: usize,
+    j: usize,
+) -> Result<usize, Wanting>
+    requires { Formed pool.old f × ((e < 2 ^ 32) × (j < 2 ^ 32)) }
+    ensures words { claimed result pool.new ≡ open_in f.pages (code_of kind) e j pool.old }
+    ensures page { IfOk result (PageIn f) }
 {
-    let r = claim(pool, f, kind, e);
-    if r == 0 {
-        return 0;
-    }
+    let r = claim(pool, f, kind, e)?;
     fresh(pool, j, kind, e);
-    r
+    Ok(r)
 }
 
-// The left page or the right one.
-fn side(left: bool, j: usize, r: usize) -> usize
-    requires { (j < 2 ^ 32) × (r < 2 ^ 32) }
-    ensures { (result ≡ cond left j r) × (result < 2 ^ 32) }
+// The m records of src go to page j where their key is below the cut, else to page r.
+#[tactic(auto, using(crate::proofs::Laws::points_end, crate::proofs::Laws::points_next))]
+fn deal_points(pool: &mut [u32], k: usize, cut: Cut, src: &[u32], m: usize, j: usize, r: usize)
+    requires { (k ≤ 4) × ((cut.domain < k) × ((m < 2 ^ 33) × ((j < 2 ^ 32) × (r < 2 ^ 32)))) }
+    ensures { pool.new ≡ points_in L k cut.domain cut.key m src.now 4 j r pool.old }
 {
-    if left { j } else { r }
-}
-
-// The record at word a of src goes to page j if its key is below x, else to page r.
-fn deal_point(
-    pool: &mut [u32],
-    k: usize,
-    d: usize,
-    x: usize,
-    src: &[u32],
-    a: usize,
-    j: usize,
-    r: usize,
-)
-    requires { (k ≤ 4) × ((d ≤ 4) × ((a < 2 ^ 40) × ((j < 2 ^ 32) × (r < 2 ^ 32)))) }
-    ensures { pool.new ≡ append_in L (k + 1) pool.old (cond (ltb (get_or src.now (a + d) 0) x) j r) (take (k + 1) (drop a src.now)) }
-{
-    append(pool, k + 1, side(get(src, a + d) < x, j, r), src, a);
-}
-
-// The m records of src are dealt out.
-fn deal_points(
-    pool: &mut [u32],
-    k: usize,
-    d: usize,
-    x: usize,
-    src: &[u32],
-    m: usize,
-    j: usize,
-    r: usize,
-)
-    requires { (k ≤ 4) × ((d ≤ 4) × ((m < 2 ^ 33) × ((j < 2 ^ 32) × (r < 2 ^ 32)))) }
-    ensures { pool.new ≡ points_in L k d x m src.now 4 j r pool.old }
-{
-    let mut a: usize = 4;
-    let mut i: usize = 0;
-    while i < m {
-        deal_point(pool, k, d, x, src, a, j, r);
-        a += k + 1;
-        i += 1;
+    for i in 0..m {
+        let record = part(src, 4 + i * (k + 1), k + 1);
+        let left = get(record, cut.domain) < cut.key as usize;
+        append(pool, k + 1, if left { j } else { r }, record);
     }
 }
 
-// The m records of src go to page j and a claimed page, both of domain e: the claimed page, or 0.
+// The m records of src go to page j and a claimed page, both of domain e: the claimed page.
+#[tactic(auto, using(crate::proofs::Laws::points_none, crate::proofs::Laws::points_some))]
 pub fn part_points(
     pool: &mut [u32],
     f: Form,
-    d: usize,
-    x: usize,
+    cut: Cut,
     src: &[u32],
     m: usize,
     e: usize,
     j: usize,
-) -> usize
-    requires { Formed pool.old f × (Along f d x × ((m < 2 ^ 33) × ((e < 2 ^ 32) × (j < 2 ^ 32)))) }
-    ensures { (claimed result pool.new ≡ part_points L f.pages f.domains d x src.now m e j pool.old) × (result < f.pages) }
+) -> Result<usize, Wanting>
+    requires { Formed pool.old f × ((cut.domain < f.domains) × ((m < 2 ^ 33) × ((e < 2 ^ 32) × (j < 2 ^ 32)))) }
+    ensures words { claimed result pool.new ≡ part_points L f.pages f.domains cut.domain cut.key src.now m e j pool.old }
+    ensures page { IfOk result (PageIn f) }
 {
-    let r = open_pages(pool, f, 2, e, j);
-    if r == 0 {
-        return 0;
-    }
-    deal_points(pool, f.domains, d, x, src, m, j, r);
-    r
+    let r = open_pages(pool, f, Kind::Point, e, j)?;
+    deal_points(pool, f.domains, cut, src, m, j, r);
+    Ok(r)
 }
 
-// The entry at word a of src lies on both sides of x.
-pub fn crosses(src: &[u32], k: usize, d: usize, x: usize, a: usize) -> bool
-    requires { (k ≤ 4) × ((d ≤ 4) × (a < 2 ^ 40)) }
-    ensures { result ≡ ltb x (get_or src.now (a + k + d) 0) && ltb (get_or src.now (a + d) 0) x }
+// The entry's region lies on both sides of the cut.
+pub fn crosses(entry: &[u32], k: usize, cut: Cut) -> bool
+    requires { (k ≤ 4) × (cut.domain ≤ 4) }
+    ensures { result ≡ ltb cut.key (get_or entry.now (k + cut.domain) 0) && ltb (get_or entry.now cut.domain 0) cut.key }
 {
-    (x < get(src, a + k + d)) & (get(src, a + d) < x)
+    let key = cut.key as usize;
+    (key < get(entry, k + cut.domain)) & (get(entry, cut.domain) < key)
 }
 
-// The entry at word a of src, which does not cross, goes to its side.
-pub fn deal_entry(
-    pool: &mut [u32],
-    k: usize,
-    d: usize,
-    x: usize,
-    src: &[u32],
-    a: usize,
-    j: usize,
-    r: usize,
-)
-    requires { (k ≤ 4) × ((d ≤ 4) × ((a < 2 ^ 40) × ((j < 2 ^ 32) × (r < 2 ^ 32)))) }
-    ensures { pool.new ≡ append_in L (2 * k + 1) pool.old (cond (leb (get_or src.now (a + k + d) 0) x) j r) (take (2 * k + 1) (drop a src.now)) }
-{
-    append(
-        pool,
-        2 * k + 1,
-        side(get(src, a + k + d) <= x, j, r),
-        src,
-        a,
-    );
-}
-
-// Writes one half of the entry at word a of src: its word i becomes x, its child q. How many words of it src has.
-pub fn half(to: &mut [u32], k: usize, src: &[u32], a: usize, i: usize, x: usize, q: usize) -> usize
-    requires { (k ≤ 4) × ((a < 2 ^ 40) × ((x < 2 ^ 32) × (q < 2 ^ 32))) }
-    ensures { (to.new ≡ set (set (sets to.old 0 (take (2 * k + 1) (drop a src.now))) i x) (2 * k) q) × ((result ≡ length (take (2 * k + 1) (drop a src.now))) × (result ≤ 2 * k + 1)) }
-{
-    let n = copy_part(to, 0, src, a, 2 * k + 1);
-    put(to, i, x);
-    put(to, 2 * k, q);
-    n
-}
-
-// One half of the entry at word a of src goes behind the last entry of page c: its word i becomes x, its child q.
-pub fn append_half(
-    pool: &mut [u32],
-    k: usize,
-    c: usize,
-    src: &[u32],
-    a: usize,
-    i: usize,
-    x: usize,
-    q: usize,
-)
-    requires { (k ≤ 4) × ((c < 2 ^ 32) × ((a < 2 ^ 40) × ((x < 2 ^ 32) × (q < 2 ^ 32)))) }
-    ensures { pool.new ≡ append_in L (2 * k + 1) pool.old c (half_in k src.now a i x q) }
+// One half of an entry, in as many words as it has: its word i becomes x, its child q.
+#[tactic(auto, using(crate::proofs::Laws::half_is))]
+pub fn half(k: usize, entry: &[u32], i: usize, x: u32, q: usize) -> [u32; 9]
+    requires { (k ≤ 4) × ((length entry.now ≤ 2 * k + 1) × (q < 2 ^ 32)) }
+    ensures { take (length entry.now) result ≡ half_in k entry.now i x q }
 {
     let mut words = [0u32; 9];
-    let n = half(&mut words, k, src, a, i, x, q);
-    append(pool, 2 * k + 1, c, &words[..n], 0);
+    store(&mut words, 0, entry);
+    put(&mut words, i, x as usize);
+    put(&mut words, 2 * k, q);
+    words
 }
 
-// The halves of the entry at word a of src go to pages j and r; q is the child's right page.
-pub fn deal_both(
-    pool: &mut [u32],
-    k: usize,
-    d: usize,
-    x: usize,
-    src: &[u32],
-    a: usize,
-    j: usize,
-    r: usize,
-    q: usize,
-)
-    requires { (k ≤ 4) × ((d < k) × ((x < 2 ^ 32) × ((a < 2 ^ 40) × ((j < 2 ^ 32) × ((r < 2 ^ 32) × (q < 2 ^ 32)))))) }
-    ensures { pool.new ≡ both_in k d x src.now a j r q pool.old }
+// One half of an entry goes behind the last entry of page c.
+pub fn append_half(pool: &mut [u32], k: usize, c: usize, entry: &[u32], i: usize, x: u32, q: usize)
+    requires { (k ≤ 4) × ((c < 2 ^ 32) × ((length entry.now ≤ 2 * k + 1) × (q < 2 ^ 32))) }
+    ensures { pool.new ≡ append_in L (2 * k + 1) pool.old c (half_in k entry.now i x q) }
 {
-    append_half(pool, k, j, src, a, k + d, x, get(src, a + 2 * k));
-    append_half(pool, k, r, src, a, d, x, q);
+    let words = half(k, entry, i, x, q);
+    append(pool, 2 * k + 1, c, &words[..entry.len()]);
+}
+
+// The halves of an entry go to pages j and r; q is the child's right page.
+#[tactic(auto, using(crate::proofs::Laws::both_is))]
+pub fn deal_both(pool: &mut [u32], k: usize, cut: Cut, entry: &[u32], j: usize, r: usize, q: usize)
+    requires { (k ≤ 4) × ((cut.domain < k) × ((length entry.now ≤ 2 * k + 1) × ((j < 2 ^ 32) × ((r < 2 ^ 32) × (q < 2 ^ 32))))) }
+    ensures { pool.new ≡ both_in k cut.domain cut.key entry.now j r q pool.old }
+{
+    let child = get(entry, 2 * k);
+    append_half(pool, k, j, entry, k + cut.domain, cut.key, child);
+    append_half(pool, k, r, entry, cut.domain, cut.key, q);
 }

@@ -11,9 +11,8 @@ use borrow.Author.Tests.{ne_eqb}
 use mir.Syntax.{w32}
 use mir.Val.{Fits}
 use Rattle.kdb.specs.Lists.{only, Each}
-use Rattle.kdb.specs.declared.Refusal.{Refusal}
-use Rattle.kdb.specs.Calls.{Call, Buffers, Outcome, refuses, number_of, outcome, Promise}
-use Rattle.kdb.proofs.Calls.{not_0, promise_once}
+use Rattle.kdb.specs.Calls.{Call, Buffers, Outcome, outcome, Promise}
+use Rattle.kdb.proofs.Calls.{promise_once}
 use Rattle.kdb.proofs.Lawful.{quiet, outcome_fits}
 use Rattle.kdb.proofs.Fits.{Word, each_word}
 use Rattle.kdb.proofs.Lists.{each_map}
@@ -55,21 +54,6 @@ crossed_once w c n m fields others b d l p q =
     let one = promise_once w c _ _ p q in
     let number : n ≡ m = ap (λ o. o.number) one in
     (number, (same_fields w c n fields others b d l p (rw (sym number) at q), ap (λ o. o.after) one))
-
--- a refusal with zeros behind its number
-crosses : (r : Refusal) (fields : List ℕ) (b : Buffers) → only (λ f. not (eqb f 0)) fields ≡ [] → crossed (number_of r) fields b ≡ refuses r b
-crosses r fields b e = rw (ne_eqb (number_of r) 0 (not_0 r), e)
-
-pub told_refused : {n : ℕ} (r : Refusal) → n ≡ number_of r → (b : Buffers) → crossed n [] b ≡ refuses r b
-told_refused {n} r e b = rw e (crosses r [] b refl)
-
--- as a function that fills the fields gives it
-pub refused_one : {w : List ℕ} {c : Call} {m n x : ℕ} {b : Buffers} (r : Refusal) → n ≡ number_of r → (m ≡ n) × (x ≡ 0) → Promise w c (refuses r b) → Promise w c (crossed m (x ∷ []) b)
-refused_one {w} {c} {m} {n} {x} {b} r h e p = rw (e.0, e.1, h, crosses r (0 ∷ []) b refl) p
-
-pub refused_two : {w : List ℕ} {c : Call} {m n x y : ℕ} {b : Buffers} (r : Refusal) → n ≡ number_of r → (m ≡ n) × ((x ≡ 0) × (y ≡ 0)) → Promise w c (refuses r b)
-    → Promise w c (crossed m (x ∷ y ∷ []) b)
-refused_two {w} {c} {m} {n} {x} {y} {b} r h e p = rw (e.0, e.1.0, e.1.1, h, crosses r (0 ∷ 0 ∷ []) b refl) p
 
 -- the values of a kept promise fit a field, since the pool's words do
 pub promise_fits : {w : List ℕ} {c : Call} {o : Outcome} → Promise w c o → ((i : ℕ) → Fits w32 (get_or w i 0)) → Each (Fits w32) o.values

@@ -6,13 +6,13 @@ ghost use Rattle.kdb.specs.Calls.{format, check, place, remove, find, list, Buff
 ghost use Rattle.opening.specs.Opens.{finished_as};
 ghost use Rattle.export.specs.Crossing.{crossed};
 
-use index::{Removed, format, place, remove};
-use opening::{Finished, number};
-use query::{Found, Listed, check, find, list};
+use index::{format, place, remove};
+use kdb::Refusal;
+use query::{check, find, list};
 
-// A remove's number and location.
+// A remove's number and location. In each of these a field behind the number is 0 after a refusal.
 #[repr(C)]
-#[derive(Clone, Copy)]
+#[derive(Clone, Copy, Default)]
 pub struct Removal {
     pub number: u32,
     pub location: u32,
@@ -20,7 +20,7 @@ pub struct Removal {
 
 // A find's number, location and pages read.
 #[repr(C)]
-#[derive(Clone, Copy)]
+#[derive(Clone, Copy, Default)]
 pub struct Finding {
     pub number: u32,
     pub location: u32,
@@ -29,50 +29,20 @@ pub struct Finding {
 
 // A list's number, total and pages read.
 #[repr(C)]
-#[derive(Clone, Copy)]
+#[derive(Clone, Copy, Default)]
 pub struct Listing {
     pub number: u32,
     pub total: u32,
     pub reads: u32,
 }
 
-// After a refusal every field behind the number is 0.
-fn not_removed(number: u32) -> Removal
-    ensures { (result.number ≡ number) × (result.location ≡ 0) }
-{
-    Removal {
-        number,
-        location: 0,
-    }
-}
-
-fn not_found(number: u32) -> Finding
-    ensures { (result.number ≡ number) × ((result.location ≡ 0) × (result.reads ≡ 0)) }
-{
-    Finding {
-        number,
-        location: 0,
-        reads: 0,
-    }
-}
-
-fn not_listed(number: u32) -> Listing
-    ensures { (result.number ≡ number) × ((result.total ≡ 0) × (result.reads ≡ 0)) }
-{
-    Listing {
-        number,
-        total: 0,
-        reads: 0,
-    }
-}
-
 // The number of an answer without values.
-fn told(f: Finished) -> u32
-    ensures { (b : Buffers) → crossed result [] b ≡ finished_as f b }
+fn told(a: Result<(), Refusal>) -> u32
+    ensures { (b : Buffers) → crossed result [] b ≡ finished_as a b }
 {
-    match f {
-        Finished::Done => 0,
-        Finished::Refused(r) => number(r),
+    match a {
+        Ok(()) => 0,
+        Err(r) => u32::from(r),
     }
 }
 
@@ -107,11 +77,14 @@ pub extern "C" fn korytanka_remove(pool: &mut [u32], point: &[u32]) -> Removal
     ensures { Promise pool.old (remove point.now) (crossed result.number (result.location ∷ []) (alone pool.new)) }
 {
     match remove(pool, point) {
-        Removed::At(location) => Removal {
+        Ok(location) => Removal {
             number: 0,
-            location: location as u32,
+            location,
         },
-        Removed::Refused(r) => not_removed(number(r)),
+        Err(r) => Removal {
+            number: u32::from(r),
+            ..Removal::default()
+        },
     }
 }
 
@@ -120,12 +93,15 @@ pub extern "C" fn korytanka_find(pool: &[u32], point: &[u32]) -> Finding
     ensures { Promise pool.now (find point.now) (crossed result.number (result.location ∷ result.reads ∷ []) (alone pool.now)) }
 {
     match find(pool, point) {
-        Found::At(location, reads) => Finding {
+        Ok(f) => Finding {
             number: 0,
-            location: location as u32,
-            reads: reads as u32,
+            location: f.location,
+            reads: f.reads as u32,
         },
-        Found::Refused(r) => not_found(number(r)),
+        Err(r) => Finding {
+            number: u32::from(r),
+            ..Finding::default()
+        },
     }
 }
 
@@ -134,11 +110,14 @@ pub extern "C" fn korytanka_list(pool: &[u32], window: &[u32], answer: &mut [u32
     ensures { Promise pool.now (list window.now answer.old) (crossed result.number (result.total ∷ result.reads ∷ []) (answering answer.new pool.now)) }
 {
     match list(pool, window, answer) {
-        Listed::Counted(total, reads) => Listing {
+        Ok(l) => Listing {
             number: 0,
-            total: total as u32,
-            reads: reads as u32,
+            total: l.total as u32,
+            reads: l.reads as u32,
         },
-        Listed::Refused(r) => not_listed(number(r)),
+        Err(r) => Listing {
+            number: u32::from(r),
+            ..Listing::default()
+        },
     }
 }

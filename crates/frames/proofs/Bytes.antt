@@ -1,23 +1,29 @@
 -- One byte in the buffers, and the loop that takes a piece of the input.
 use mathlib.Core.List.{List, [], ◌∷◌, ◌++◌, append-nil}
 use mathlib.Core.Option.{Option, none, some}
-use mathlib.Core.Path.{◌≡◌, refl, sym, ap, ap₂, ◌∙◌}
-use Prim.Native.Nat.{ℕ, zero, suc, ◌+◌, ◌-◌, ◌<◌, ◌≤◌, min}
+use mathlib.Core.Path.{◌≡◌, refl, sym, ap, ◌∙◌}
+use Prim.Native.Nat.{ℕ, ◌+◌, ◌<◌, ◌≤◌, min}
 use native.Mathlib.Omega.{arith}
 use native.Mathlib.Numerals.{add-one}
 use lib.Dec.{leb, ltb, leb→le, nleb→lt, ltb→lt, nltb→le}
-use lib.ListN.{length, get_or, take, drop, set, length-drop}
-use lib.Seq.{sets, take-add, take-take, take-suc, take-suc-set, length-take-le}
-use borrow.Author.Tests.{lt-ltb, le-ltb, ne_eqb}
+use lib.ListN.{length, get_or, take, drop, set, take-append-drop}
+use lib.Seq.{sets, take-suc, take-suc-set, length-take-le}
+use borrow.Author.Tests.{le-leb, lt-leb, lt-ltb, le-ltb, ne_eqb}
 use Rattle.kdb.specs.Frames.{Reply}
 use Rattle.kdb.proofs.Tests.{bool}
-use Rattle.replies.specs.Reply.{work_after, Sized, Replied}
+use Rattle.replies.specs.Reply.{work_after, Replied}
 use Rattle.frames.specs.Stream.{Stage, longer, closed, asked, next, said, stage_after, wrote}
-use Rattle.text.specs.Text.{counted, Written}
-use Rattle.frames.specs.State.{Store, store_of, stage_of, stored, kept, Stepped, Fed}
+use Rattle.text.specs.Text.{Written}
+use Rattle.frames.specs.State.{Store, counted, store_of, stage_of, stored, kept, Stepped, Fed}
 use Rattle.frames.proofs.Stream.{after_append, wrote_append}
 use Rattle.text.proofs.Write.{written_none, written_then}
-use Rattle.replies.proofs.Replies.{counted_some, counted_none, stands}
+use Rattle.replies.proofs.Replies.{stands}
+
+counted_some : (m n : ℕ) (l : List ℕ) → n ≤ m → counted m n l ≡ some (take n l)
+counted_some m n l h = rw (le-leb n m h)
+
+counted_none : (m n : ℕ) (l : List ℕ) → m < n → counted m n l ≡ none
+counted_none m n l h = rw (lt-leb n m h)
 
 -- a character is kept, or one too many is not
 push_more : (line : List ℕ) (d b : ℕ) → length line ≡ 128 → d < 128 → counted 128 (d + 1) (set line d b) ≡ longer (counted 128 d line) b
@@ -82,10 +88,6 @@ pub record Feeding (m : Store) (piece out : List ℕ) (m' : Store) (out' : List 
   pub within : taken ≤ length piece
   pub goes : (t : ℕ) → t < taken → length (wrote (stage_of m) (take t piece)) + 531 ≤ length out
 
-pub feeding_none : (m : Store) (piece out : List ℕ) → Feeding m piece out m out 0 0
-feeding_none m piece out =
-    record { store = refl; stage = refl; text = written_none out 0; fits = omega arith; within = omega arith; goes = λ t h. absurd (omega arith) }
-
 module _ {m m' m'' : Store} {piece out out' out'' : List ℕ} {i at at' : ℕ} where
   pub feeding_next : (b : ℕ) → Feeding m piece out m' out' i at → i < length piece → at + 531 ≤ length out → b ≡ get_or piece i 0 → Stepped m' b out' at m'' out'' at'
       → Feeding m piece out m'' out'' (i + 1) at'
@@ -112,28 +114,10 @@ pub feeding_end : {m m' : Store} {piece out out' : List ℕ} {i at : ℕ} → Fe
 feeding_end f h w =
     record { store = f.store; stage = f.stage; text = f.text; fits = f.fits; within = f.within; goes = f.goes; stops = h; bounded = w }
 
--- a piece is fed part by part: what is left of it after `at` bytes
-pub fed_on : (m : Store) (piece : List ℕ) (at : ℕ) {m' m'' : Store} {out out' : List ℕ} {taken written : ℕ} → m' ≡ kept m (take at piece) → Fed m' (take (length piece - at) (drop at piece)) out m'' out' taken written
-    → at ≤ length piece → m'' ≡ kept m (take (at + taken) piece)
-fed_on m piece at {taken = taken} e f h =
-    let rest = drop at piece in
-    let l : length (take (length piece - at) rest) ≡ length piece - at = length-take-le (length piece - at) rest (omega (arith, length-drop at piece)) in
-    f.store
-    ∙ ap₂ kept e (take-take taken (length piece - at) rest (omega (arith, f.within)))
-    ∙ sym (kept_append m (take at piece) (take taken rest))
-    ∙ ap (kept m) (sym (take-add at taken piece))
-
--- with room for an answer at least one byte is taken
-pub fed_some : {m m' : Store} {piece out out' : List ℕ} {written : ℕ} (taken : ℕ) → Fed m piece out m' out' taken written → 0 < length piece → 531 ≤ length out → 0 < taken
-fed_some zero f h k = absurd (omega (arith, f.stops h, f.text.follows))
-fed_some (suc n) f h k = omega arith
-
--- the same with the buffers' sizes, as the loop keeps it
-pub record Looping (m : Store) (piece out₀ line pool work out : List ℕ) (words digits i at : ℕ) : Type 0 where
-  pub fed : Feeding m piece out₀ (store_of words digits line pool work) out i at
-  pub line_long : length line ≡ 128
-  pub sized : Sized pool work words 0
-  pub out_long : length out ≡ length out₀
+-- a piece is fed part by part: what is left of it gives what the whole gives
+pub fed_rest : {m m' : Store} {piece out out' : List ℕ} {taken written : ℕ} → Fed m piece out m' out' taken written → kept m' (drop taken piece) ≡ kept m piece
+fed_rest {m} {m'} {piece} {taken = taken} f =
+    ap (λ (x : Store). kept x (drop taken piece)) f.store ∙ sym (kept_append m (take taken piece) (drop taken piece)) ∙ ap (kept m) (take-append-drop taken piece)
 
 -- two outcomes that meet the promise of a line are equal, and so are two that meet feed's
 pub replied_same : {r : Reply} {pool out p q o u : List ℕ} {at v w i j : ℕ} → Replied r pool out at p o v i → Replied r pool out at q u w j → (p ≡ q) × (o ≡ u) × (v ≡ w) × (i ≡ j)

@@ -1,13 +1,18 @@
--- A line by the bytes that were read, and a pool by the buffer that it stands in.
+-- A line by the bytes that were read.
 use mathlib.Core.List.{List, [], ◌∷◌}
-use mathlib.Core.Path.{◌≡◌, refl, sym, ap, ◌∙◌}
-use Prim.Native.Nat.{ℕ, ◌<◌, ◌≤◌, min}
+use mathlib.Core.Path.{◌≡◌, refl, sym, ap}
+use mathlib.Core.Option.{Option}
+use Prim.Native.Nat.{ℕ, ◌+◌, ◌^◌, ◌<◌, ◌≤◌}
 use native.Mathlib.Omega.{arith}
 use lib.ListN.{length, take}
+use lib.Seq.{length-take-le}
 use borrow.Author.Tests.{le-leb, lt-leb}
 use Rattle.kdb.specs.Frames.{unknown, framed, parse, bytes_of, obey, reply}
-use Rattle.text.specs.Text.{counted}
-use Rattle.replies.proofs.Replies.{take_least}
+use Rattle.text.specs.declared.Sink.{Sink}
+use Rattle.text.proofs.Write.{written_none}
+use Rattle.replies.specs.declared.Store.{Store}
+use Rattle.replies.specs.Served.{Served}
+use Rattle.replies.proofs.Replies.{laid_same}
 
 -- an empty line
 pub reply_empty : (w line : List ℕ) → length line ≡ 0 → reply w line ≡ record { pool = w; text = [] }
@@ -22,15 +27,24 @@ parse_empty (a ∷ line) h = absurd (omega arith)
 pub parse_long : (line : List ℕ) → 128 < length line → parse line ≡ unknown
 parse_long line h = rw (lt-leb (length line) 128 h)
 
-pub parse_bytes : (line bytes : List ℕ) (n : ℕ) → length line ≤ 128 → counted 64 n bytes ≡ bytes_of line → parse line ≡ framed (counted 64 n bytes)
-parse_bytes line bytes n h e = rw (le-leb (length line) 128 h) (ap framed (sym e))
+-- a line of up to 128 characters, by the bytes that were read, if it has bytes
+pub parse_bytes : (line : List ℕ) {o : Option (List ℕ)} → length line ≤ 128 → o ≡ bytes_of line → parse line ≡ framed o
+parse_bytes line h e = rw (le-leb (length line) 128 h) (ap framed (sym e))
 
--- a line of up to 128 characters, by the bytes that were read, which are none for 65
-pub reply_bytes : (w line bytes : List ℕ) (n : ℕ) → (length line ≡ 0 → ⊥) → length line ≤ 128 → counted 64 n bytes ≡ bytes_of line → reply w line ≡ obey w (framed (counted 64 n bytes))
+pub reply_bytes : (w line : List ℕ) {o : Option (List ℕ)} → (length line ≡ 0 → ⊥) → length line ≤ 128 → o ≡ bytes_of line → reply w line ≡ obey w (framed o)
 unfolding reply
-reply_bytes w [] bytes n h k e = absurd (h refl)
-reply_bytes w (a ∷ line) bytes n h k e = rw (le-leb (length (a ∷ line)) 128 k) (ap (λ o. obey w (framed o)) (sym e))
+reply_bytes w [] h k e = absurd (h refl)
+reply_bytes w (a ∷ line) h k e = rw (le-leb (length (a ∷ line)) 128 k) (ap (λ o. obey w (framed o)) (sym e))
 
--- a pool's words past the buffer's end count as the buffer's end
-pub take_within : (n m : ℕ) (l : List ℕ) → length l ≡ 16384 → m ≡ min n 16384 → take m l ≡ take n l
-take_within n m l h e = ap (λ i. take i l) (e ∙ ap (min n) (sym h)) ∙ sym (take_least n l)
+-- an empty line leaves all as it was
+pub unanswered : (s : Store) (o : Sink) → o.at + 531 ≤ 2 ^ 63 → Served (record { pool = take s.words s.pool.now; text = [] }) unknown s o s o
+unanswered s o h =
+    record {
+      reply = record {
+        replied = record { holds = laid_same s.words s.pool.now; long = sym (length-take-le s.words s.pool.now (omega (arith, s.pool_long, s.within))); text = written_none o.out.now o.at; room = omega arith; within = s.within };
+        same_pool = refl;
+        same_work = refl;
+        same_out = refl;
+      };
+      work = refl;
+    }

@@ -1,10 +1,15 @@
 -- How the code holds a stage of the stream in its buffers, and what each of its functions leaves there. The pool is the first `words` words
 -- of a buffer of 16,384; the line is the first `digits` bytes of a buffer of 128, and more than 128 digits stand for a line that is too long.
-use Rattle.std.specs.Prelude.{cond, List, [], ◌∷◌, ◌≡◌, ℕ, ◌+◌, ◌≤◌, ◌<◌, min, eqb, length, take, set}
+use Rattle.std.specs.Prelude.{cond, List, [], ◌∷◌, ◌≡◌, ℕ, ◌+◌, ◌≤◌, ◌<◌, min, leb, eqb, length, take, set}
+use Rattle.std.proofs.Math.Option.{Option, none, some}
 use Rattle.std.proofs.lemmas.List.Edits.{sets}
-use Rattle.text.specs.Text.{counted, Written}
+use Rattle.text.specs.Text.{Written}
 use Rattle.replies.specs.Reply.{work_after}
 use Rattle.frames.specs.Stream.{Stage, closed, asked, next, said, stage_after, wrote}
+
+-- the first r, where r is at most n; any other r stands for none
+abbrev pub counted : ℕ → ℕ → List ℕ → Option (List ℕ)
+counted n r l = cond (leb r n) (some (take r l)) none
 
 -- all that is kept between two bytes: the pool's words, the characters of the line so far, and the three buffers
 pub record Store : Type 0 where

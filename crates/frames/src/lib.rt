@@ -1,93 +1,113 @@
 #![tactic(auto)]
 
 // A line of bytes to its answer, and a stream of bytes to its output.
-ghost use Rattle.std.specs.Prelude.{◌≡◌, ◌+◌, min, length, set, take};
+ghost use Rattle.std.specs.Prelude.{◌≡◌, ◌+◌, ◌≤◌, ◌^◌, min, length, set, take};
 ghost use Rattle.kdb.specs.Frames.{parse, reply};
-ghost use Rattle.text.specs.Text.{counted};
-ghost use Rattle.replies.specs.Reply.{work_after, Sized, Replied};
+ghost use Rattle.text.specs.Text.{shown};
+ghost use Rattle.replies.specs.Reply.{work_after, Replied};
+ghost use Rattle.replies.specs.Served.{Served};
 ghost use Rattle.frames.specs.Stream.{closed, asked};
-ghost use Rattle.frames.specs.State.{store_of, stage_of, Stepped, Fed};
+ghost use Rattle.frames.specs.State.{counted, store_of, stage_of, Fed};
 
 use answers::no_frame;
-use replies::{Said, frame};
-use text::decode;
-use words::smaller;
+use replies::Store;
+use text::{Sink, decode};
 
 // The answer to a line of characters.
-fn line_answer(
-    line: &[u8],
-    pool: &mut [u32],
-    words: usize,
-    work: &mut [u32],
-    out: &mut [u8],
-    at: usize,
-) -> Said
-    requires { Sized pool.old work.old words at }
-    ensures { Replied (reply (take words pool.old) line.now)
-        pool.old out.old at pool.new out.new result.words result.at
-        × (work.new ≡ work_after (take words pool.old) work.old (parse line.now)) }
+fn line_answer(line: &[u8], store: &mut Store, sink: &mut Sink)
+    requires { sink.old.at + 531 ≤ 2 ^ 63 }
+    ensures { Served (reply (take store.old.words store.old.pool.now) line.now) (parse line.now)
+        store.old sink.old store.new sink.new }
 {
-    if line.len() == 0 {
-        return Said {
-            words: words,
-            at: at,
-        };
+    if line.is_empty() {
+        return;
     }
     if 128 < line.len() {
-        let next = no_frame(out, at);
-        return Said {
-            words: words,
-            at: next,
-        };
+        return no_frame(sink);
     }
     let mut bytes = [0u8; 64];
-    let n = decode(line, &mut bytes);
-    if 64 < n {
-        let next = no_frame(out, at);
-        return Said {
-            words: words,
-            at: next,
-        };
+    match decode(line, &mut bytes) {
+        Some(bytes) => store.frame(bytes, sink),
+        None => no_frame(sink),
     }
-    frame(&bytes[..n], pool, words, work, out, at)
 }
 
-// One more character of a line; 129 once there are more than 128.
-fn push(line: &mut [u8], digits: usize, b: u8) -> usize
-    requires { length line.old ≡ 128 }
-    ensures { (line.new ≡ set line.old digits b) × (result ≡ min digits 128 + 1) }
+// The answer where the line ends; there is none of a line that is too long.
+fn close(line: Option<&[u8]>, store: &mut Store, sink: &mut Sink)
+    requires { sink.old.at + 531 ≤ 2 ^ 63 }
+    ensures { Served (closed (record { pool = take store.old.words store.old.pool.now; line = shown line.entry }))
+        (asked (shown line.entry))
+        store.old sink.old store.new sink.new }
 {
-    if digits < 128 {
-        line[digits] = b;
-        digits + 1
-    } else {
-        129
+    match line {
+        Some(line) => line_answer(line, store, sink),
+        None => no_frame(sink),
     }
 }
 
-// The answer where the line ends.
-fn close(
-    line: &[u8],
+// The line so far: the first `digits` bytes of a buffer of 128, and more than 128 digits stand for a line that is too long.
+#[derive(Drop)]
+struct Line<'a> {
+    bytes: &'a mut [u8],
     digits: usize,
-    pool: &mut [u32],
-    words: usize,
-    work: &mut [u32],
-    out: &mut [u8],
-    at: usize,
-) -> Said
-    requires { Sized pool.old work.old words at × (length line.now ≡ 128) }
-    ensures { Replied (closed (stage_of (store_of words digits line.now pool.old work.old)))
-        pool.old out.old at pool.new out.new result.words result.at
-        × (work.new ≡ work_after (take words pool.old) work.old (asked (counted 128 digits line.now))) }
-{
-    if 128 < digits {
-        let next = no_frame(out, at);
-        return Said {
-            words: words,
-            at: next,
-        };
+    ghost bytes_long: { length bytes.now ≡ 128 },
+}
+
+impl Line<'_> {
+    ghost use Rattle.frames.specs.Lines.{Steps, Feeds};
+
+    // One more character; 129 digits once there are more than 128.
+    fn push(&mut self, b: u8)
+        ensures bytes { self.new.bytes.now ≡ set self.old.bytes.now self.old.digits b }
+        ensures digits { self.new.digits ≡ min self.old.digits 128 + 1 }
+        ensures same { self.new.bytes.ghost_name ≡ self.old.bytes.ghost_name }
+    {
+        if self.digits < 128 {
+            self.bytes[self.digits] = b;
+        }
+        self.digits = self.digits.min(128) + 1;
     }
-    line_answer(&line[..digits], pool, words, work, out, at)
+
+    // The characters; none for a line that is too long.
+    fn text(&self) -> Option<&[u8]>
+        ensures { shown result ≡ counted 128 self.now.digits self.now.bytes.now }
+    {
+        self.bytes.get(..self.digits)
+    }
+
+    // One byte of the input.
+    fn step(&mut self, b: u8, store: &mut Store, sink: &mut Sink)
+        requires { sink.old.at + 531 ≤ 2 ^ 63 }
+        ensures { Steps self.old store.old sink.old b self.new store.new sink.new }
+    {
+        if b == b'\n' {
+            close(self.text(), store, sink);
+            self.digits = 0;
+        } else {
+            self.push(b);
+        }
+    }
+
+    // The bytes of a piece, as long as the output has room for an answer; and how many were taken.
+    fn feed(&mut self, piece: &[u8], store: &mut Store, sink: &mut Sink) -> usize
+        requires { sink.old.at ≡ 0 }
+        ensures { Feeds self.old store.old sink.old piece.now self.new store.new sink.new result }
+    {
+        for (i, b) in piece.iter().enumerate() {
+            if sink.out.len() - sink.at < 531 {
+                return i;
+            }
+            self.step(*b, store, sink);
+        }
+        piece.len()
+    }
+}
+
+// The pool's words after a line, and the place in the output that follows its answer.
+#[derive(Clone, Copy)]
+pub struct Said {
+    pub words: usize,
+    pub at: usize,
 }
 
 // What is kept between two pieces besides the buffers: the pool's words, and the characters of the line so far.
@@ -97,92 +117,33 @@ pub struct Held {
     pub digits: usize,
 }
 
-// What is kept between two bytes, and the place in the output.
-#[derive(Clone, Copy)]
-struct Standing {
-    words: usize,
-    digits: usize,
-    at: usize,
-}
-
-// One byte of the input.
-fn step(
-    b: u8,
-    digits: usize,
-    line: &mut [u8],
-    pool: &mut [u32],
-    words: usize,
-    work: &mut [u32],
-    out: &mut [u8],
-    at: usize,
-) -> Standing
-    requires { Sized pool.old work.old words at × (length line.old ≡ 128) }
-    ensures { Stepped (store_of words digits line.old pool.old work.old) b out.old at
-        (store_of result.words result.digits line.new pool.new work.new) out.new result.at }
-{
-    if b == 10 {
-        let said = close(line, digits, pool, words, work, out, at);
-        Standing {
-            words: said.words,
-            digits: 0,
-            at: said.at,
-        }
-    } else {
-        let more = push(line, digits, b);
-        Standing {
-            words: words,
-            digits: more,
-            at: at,
-        }
-    }
-}
-
 // What is kept after a piece, how many of its bytes were taken, and how many bytes were written.
 #[derive(Clone, Copy)]
 pub struct Taken {
-    pub words: usize,
-    pub digits: usize,
+    pub held: Held,
     pub taken: usize,
     pub written: usize,
 }
 
-// The bytes of a piece, as long as the output has room for an answer.
-fn feed_all(
-    piece: &[u8],
-    from: Held,
-    line: &mut [u8],
-    pool: &mut [u32],
-    work: &mut [u32],
+// The answer to a line, or to one that is too long, in a store and a sink of its own.
+fn say(
+    line: Option<&[u8]>,
+    words: usize,
+    pool: &mut [u32; 16384],
+    work: &mut [u32; 16384],
     out: &mut [u8],
-) -> Taken
-    requires { Sized pool.old work.old from.words 0 × (length line.old ≡ 128) }
-    ensures { Fed (store_of from.words from.digits line.old pool.old work.old) piece.now out.old
-        (store_of result.words result.digits line.new pool.new work.new) out.new result.taken result.written }
+) -> Said
+    ensures { Replied (closed (record { pool = take words pool.old; line = shown line.entry }))
+        pool.old out.old 0 pool.new out.new result.words result.at
+        × (work.new ≡ work_after (take words pool.old) work.old (asked (shown line.entry))) }
 {
-    let mut words = from.words;
-    let mut digits = from.digits;
-    let mut at: usize = 0;
-    let mut i: usize = 0;
-    while i < piece.len() {
-        if out.len() < at + 531 {
-            return Taken {
-                words: words,
-                digits: digits,
-                taken: i,
-                written: at,
-            };
-        }
-        let s = step(piece[i], digits, line, pool, words, work, out, at);
-        words = s.words;
-        digits = s.digits;
-        at = s.at;
-        i += 1;
-    }
-    Taken {
-        words: words,
-        digits: digits,
-        taken: i,
-        written: at,
+    let words = words.min(16384);
+    let mut store = Store { pool, work, words };
+    let mut sink = Sink { out, at: 0 };
+    close(line, &mut store, &mut sink);
+    Said {
+        words: store.words,
+        at: sink.at,
     }
 }
 
@@ -198,8 +159,7 @@ pub fn answer(
         pool.old out.old 0 pool.new out.new result.words result.at
         × (work.new ≡ work_after (take words pool.old) work.old (parse line.now)) }
 {
-    let within = smaller(words, 16384);
-    line_answer(line, pool, within, work, out, 0)
+    say(Some(line), words, pool, work, out)
 }
 
 // Takes bytes of a piece of the input, as long as the output has room for an answer, and carries the rest of a line over.
@@ -212,13 +172,24 @@ pub fn feed(
     out: &mut [u8],
 ) -> Taken
     ensures { Fed (store_of (min from.words 16384) from.digits line.old pool.old work.old) piece.now out.old
-        (store_of result.words result.digits line.new pool.new work.new) out.new result.taken result.written }
+        (store_of result.held.words result.held.digits line.new pool.new work.new) out.new result.taken result.written }
 {
-    let within = Held {
-        words: smaller(from.words, 16384),
+    let words = from.words.min(16384);
+    let mut store = Store { pool, work, words };
+    let mut line = Line {
+        bytes: line,
         digits: from.digits,
     };
-    feed_all(piece, within, line, pool, work, out)
+    let mut sink = Sink { out, at: 0 };
+    let taken = line.feed(piece, &mut store, &mut sink);
+    Taken {
+        held: Held {
+            words: store.words,
+            digits: line.digits,
+        },
+        taken,
+        written: sink.at,
+    }
 }
 
 // The answer to a last line without line feed.
@@ -233,6 +204,5 @@ pub fn finish(
         pool.old out.old 0 pool.new out.new result.words result.at
         × (work.new ≡ work_after (take from.words pool.old) work.old (asked (counted 128 from.digits line.now))) }
 {
-    let within = smaller(from.words, 16384);
-    close(line, from.digits, pool, within, work, out, 0)
+    say(line.get(..from.digits), from.words, pool, work, out)
 }

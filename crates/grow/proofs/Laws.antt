@@ -1,19 +1,21 @@
 -- Laws of each return of the growing functions, over the machine forms; and the cut of a page's records or entries by its keys.
-use mathlib.Core.Bool.{Bool, true, false, not, cond}
+use mathlib.Core.Bool.{true, false}
 use mathlib.Core.List.{List, [], ◌∷◌, ◌++◌, map}
-use mathlib.Core.Option.{Option, none, some}
+use mathlib.Core.Option.{Option as Maybe, none, some}
 use mathlib.Core.Path.{◌≡◌, refl, sym, ap, ap₂, ◌∙◌}
 use Prim.Native.Nat.{ℕ, zero, suc, ◌+◌, ◌-◌, ◌*◌, ◌%◌, ◌<◌, ◌≤◌}
 use native.Mathlib.Omega.{arith}
 use native.Mathlib.Nat.{suc-mul, zero-mul, mul-le-mul, mul-le-mul_left, add-zero}
 use native.Mathlib.Numerals.{add-one}
-use lib.Dec.{ltb, eqb, ltb→lt, nltb→le}
+use lib.Dec.{ltb, ltb→lt, nltb→le}
 use lib.ListN.{length, take, drop, get_or, set, replicate, length-take, length-drop, length-append, get_or-eq_default}
-use lib.Seq.{sets, get_or-take, get_or-drop, drop-drop, sets-eq, take_at, take_all}
+use lib.Seq.{sets, get_or-take, get_or-drop, get_or-set_other, drop-drop, sets-eq, take_at}
 use borrow.Author.Tests.{lt-ltb, le-ltb, eq-eqb, ne_eqb}
+use Rattle.std.proofs.Common.{Option, Some, None, Result, Ok, Err}
+use Rattle.std.specs.Result.{IsErr}
 use Rattle.kdb.specs.Box.{Key, sides, within, key_at, lower_at}
 use Rattle.kdb.specs.Calls.{L}
-use Rattle.kdb.specs.Cut.{cut_of, Cut, cut, choose, cut_points, cut_regions}
+use Rattle.kdb.specs.Cut.{cut_of, Cut, nowhere, cut, choose, cut_points, cut_regions}
 use Rattle.kdb.specs.Pages.{regions_per, points_per, read_recs, read_ents, page}
 use Rattle.kdb.specs.Steps.{after_chosen}
 use Rattle.kdb.proofs.Tests.{bool, is_false}
@@ -21,16 +23,15 @@ use Rattle.kdb.proofs.Stores.{pad_sets, take_sets_in, take_pad}
 use Rattle.kdb.proofs.Box.{within_length}
 use Rattle.kdb.proofs.Pages.{points_fit, regions_fit}
 use Rattle.words.specs.Loops.{keys_by}
+use Rattle.words.specs.Words.{region_at, word, width_of, capacity_by}
 use Rattle.cut.specs.Keys.{key_in, keys_in}
-use Rattle.cut.specs.Chosen.{cut_as}
-use Rattle.cut.specs.declared.Chosen.{Chosen}
-use Rattle.words.specs.Words.{region_at, word}
 use Rattle.deal.specs.Part.{claimed, half_in}
-use Rattle.steps.specs.Machine.{Claimed, append_in, overfull}
-use Rattle.steps.specs.Split.{part_points, part_regions, split_in}
-use Rattle.steps.specs.Grow.{short, fine, broke, Grown, broke_at, seek_in, settle_in, break_points, break_regions, widen_in, up_in, grow_in}
-use Rattle.grow.specs.Grown.{grown_as, settle_points, settle_regions}
-use Rattle.grow.specs.declared.Grown.{Grown as Answer}
+use Rattle.deal.specs.declared.Wanting.{Wanting}
+use Rattle.split.specs.Part.{part_at}
+use Rattle.steps.specs.Machine.{append_in, overfull}
+use Rattle.steps.specs.Grow.{short, fine, broke, Grown, broke_at, seek_in, settle_in, widen_in, up_in, grow_in}
+use Rattle.grow.specs.Grown.{grown_as, kind_at, cut_at, broken_at, settle_at}
+use Rattle.grow.specs.declared.Broken.{Broken}
 
 -- a region that runs past the end holds no point
 sides_short : (ls us : List ℕ) → length (sides ls us) ≤ length us
@@ -44,18 +45,21 @@ holds_none k a w p l h g =
     (λ t. absurd (omega (arith, within_length (region_at k w a) p t, sides_short (take k (drop a w)) (take k (drop (a + k) w)), length-take k (drop (a + k) w), length-drop (a + k) w)))
     (is_false (within (region_at k w a) p)))
 
-module _ (k : ℕ) (p : Key) (m i : ℕ) (w : List ℕ) (a z : ℕ) where
-  pub seek_end : seek_in k p (m - i) w a ≡ z → m ≤ i → 0 ≡ z
+module _ (k : ℕ) (p : Key) (m i : ℕ) (w : List ℕ) (b z : ℕ) (e : seek_in k p (m - i) w (b + i * (2 * k + 1)) ≡ z) where
+  pub seek_end : m ≤ i → 0 ≡ z
   unfolding seek_in
-  seek_end e h = let q : m - i ≡ 0 = omega arith in rw q at e
+  seek_end h = let q : m - i ≡ 0 = omega arith in rw q at e
 
-  pub seek_here : seek_in k p (m - i) w a ≡ z → i < m → within (region_at k w a) p ≡ true → a ≡ z
+  pub seek_here : i < m → within (region_at k w (b + i * (2 * k + 1))) p ≡ true → b + i * (2 * k + 1) ≡ z
   unfolding seek_in
-  seek_here e h t = let q : m - i ≡ suc (m - (i + 1)) = omega arith in rw (q, t) at e
+  seek_here h t = let q : m - i ≡ suc (m - (i + 1)) = omega arith in rw (q, t) at e
 
-  pub seek_next : seek_in k p (m - i) w a ≡ z → i < m → within (region_at k w a) p ≡ false → seek_in k p (m - (i + 1)) w (a + (2 * k + 1)) ≡ z
+  pub seek_next : i < m → within (region_at k w (b + i * (2 * k + 1))) p ≡ false → seek_in k p (m - (i + 1)) w (b + (i + 1) * (2 * k + 1)) ≡ z
   unfolding seek_in
-  seek_next e h t = let q : m - i ≡ suc (m - (i + 1)) = omega arith in rw (q, t) at e
+  seek_next h t =
+      let q : m - i ≡ suc (m - (i + 1)) = omega arith in
+      let n : b + (i + 1) * (2 * k + 1) ≡ b + i * (2 * k + 1) + (2 * k + 1) = rw (add-one i) (omega (arith, suc-mul i (2 * k + 1))) in
+      rw n (rw (q, t) at e)
 
 -- the copy with one entry more
 pub over_words : (wd : ℕ) (w : List ℕ) (j : ℕ) (u : List ℕ) (n : ℕ) → n ≡ 32 + wd → wd ≤ 9
@@ -74,7 +78,7 @@ choose_same : (n k d : ℕ) (f g : ℕ → List ℕ) → ((e : ℕ) → f e ≡ 
 choose_same zero k d f g h = refl
 choose_same (suc n) k d f g h = go (cut_of (f d)) (cut_of (g d)) (ap cut_of (h d)) (choose_same n k ((d + 1) % k) f g h)
   where
-    go : (o q : Option ℕ) → o ≡ q → choose n k ((d + 1) % k) f ≡ choose n k ((d + 1) % k) g
+    go : (o q : Maybe ℕ) → o ≡ q → choose n k ((d + 1) % k) f ≡ choose n k ((d + 1) % k) g
         → ◌≡◌ {A = Cut} (elim o as (λ _. Cut) [ none ↦ choose n k ((d + 1) % k) f | some x ↦ cut d x ]) (elim q as (λ _. Cut) [ none ↦ choose n k ((d + 1) % k) g | some x ↦ cut d x ])
     go none q e r = rw (← e) r
     go (some x) q e r = rw (← e)
@@ -125,113 +129,110 @@ pub regions_choose : (k e m : ℕ) (src : List ℕ) → 4 + m * (2 * k + 1) ≤ 
     → cut_regions k e (map (λ e. e.box) (read_ents k m (drop 4 src))) ≡ choose k k e (keys_in k (2 * k + 1) m src)
 regions_choose k e m src h = choose_same k k e _ (keys_in k (2 * k + 1) m src) (λ d. region_keys k m src d 0 4 (rw (zero-mul (2 * k + 1))) h)
 
+pub chosen : (k e m : ℕ) (src : List ℕ) (below : Option ℕ) → 4 + m * width_of (kind_at below) k ≤ length src
+    → cut_at k below e src m ≡ choose k k e (keys_in k (width_of (kind_at below) k) m src)
+chosen k e m src None h = points_choose k e m src
+chosen k e m src (Some level) h = regions_choose k e m src h
+
 -- what a cut leads to
-abbrev pub at : Chosen → ℕ → Answer
-at c r = record { ok = not (eqb r 0); page = r; domain = c.domain; key = c.key }
+pub short_is : (q : Result (Option Broken) Wanting) (w : List ℕ) → IsErr q → grown_as q w ≡ record { how = short; words = w }
+short_is (Ok o) w h = absurd (let y : false ≡ true = h in cc)
+short_is (Err x) w h = refl
 
-broken : (d x : ℕ) (o : Claimed) (c : Chosen) (r : ℕ) (v : List ℕ) → c.domain ≡ d → c.key ≡ x → claimed r v ≡ o → grown_as (at c r) v ≡ broke_at d x o
-broken d x o c r v p q h = rw (← p, ← q, ← h) (go (eqb r 0))
-  where
-    go : (t : Bool) → ◌≡◌ {A = Grown} (record { how = cond t (cond (not t) fine short) (broke c.domain c.key r); words = v })
-        (cond t (record { how = short; words = v }) (record { how = broke c.domain c.key r; words = v }))
-    go true = refl
-    go false = refl
+module _ (n k : ℕ) (below : Option ℕ) (m j : ℕ) (src w : List ℕ) (c : Cut) where
+  pub break_nowhere : (q : Result (Option Broken) Wanting) → IsErr q → nowhere ≡ c → grown_as q w ≡ broken_at n k below c src m j w
+  break_nowhere q h e = short_is q w h ∙ rw (← e) (go below)
+    where
+      go : (b : Option ℕ) → record { how = short; words = w } ≡ broken_at n k b nowhere src m j w
+      go None = refl
+      go (Some level) = refl
 
-module _ (n k R P m j : ℕ) (src w : List ℕ) (z : Cut) (c : Chosen) (e : cut_as c ≡ z) where
-  pub points_nowhere : c.found ≡ false → record { how = short; words = w } ≡ break_points L n k R P z src m j w
-  points_nowhere t = rw (← e, t)
+  broken_is : (d x : ℕ) → cut d x ≡ c → broke_at d x (part_at n k d x below src m (after_chosen k d) j w) ≡ broken_at n k below c src m j w
+  broken_is d x e = rw (← e) (go below)
+    where
+      go : (b : Option ℕ) → broke_at d x (part_at n k d x b src m (after_chosen k d) j w) ≡ broken_at n k b (cut d x) src m j w
+      go None = refl
+      go (Some level) = refl
 
-  pub points_broken : c.found ≡ true → (r : ℕ) (v : List ℕ) → claimed r v ≡ part_points L n k c.domain c.key src m (after_chosen k c.domain) j w
-      → grown_as (at c r) v ≡ break_points L n k R P z src m j w
-  points_broken t r v h = rw (← e, t) (broken c.domain c.key _ c r v refl refl h)
+  module _ (d x : ℕ) (e : cut d x ≡ c) (v : List ℕ) where
+    pub break_short : (q : Result (Option Broken) Wanting) → IsErr q → record { page = 0; words = v } ≡ part_at n k d x below src m (after_chosen k d) j w
+        → grown_as q v ≡ broken_at n k below c src m j w
+    break_short q i h = short_is q v i ∙ ap (broke_at d x) h ∙ broken_is d x e
 
-  module _ (level : ℕ) where
-    pub regions_nowhere : c.found ≡ false → record { how = short; words = w } ≡ break_regions L n k R P level z src m j w
-    regions_nowhere t = rw (← e, t)
-
-    pub regions_broken : c.found ≡ true → (r : ℕ) (v : List ℕ)
-        → claimed r v ≡ part_regions L n k c.domain c.key (split_in L n k c.domain c.key level) src m (after_chosen k c.domain) j w
-        → grown_as (at c r) v ≡ break_regions L n k R P level z src m j w
-    regions_broken t r v h = rw (← e, t) (broken c.domain c.key _ c r v refl refl h)
+    pub break_whole : (r : ℕ) → 1 ≤ r → claimed (Ok r) v ≡ part_at n k d x below src m (after_chosen k d) j w
+        → record { how = broke d x r; words = v } ≡ broken_at n k below c src m j w
+    break_whole r l h = rw (ne_eqb r 0 (λ z. omega arith)) at (ap (broke_at d x) h ∙ broken_is d x e)
 
 -- an overfull page has at most 15 entries
 few : (m wd : ℕ) → m * wd ≤ 28 → 2 ≤ wd → m ≤ 14
 few m wd h g = omega (arith, mul-le-mul_left m g)
 
-pub few_points : (m k : ℕ) → m ≡ points_per L k → 1 ≤ k → m ≤ 14
-few_points m k h g = few m (k + 1) (points_fit L k m (omega arith)) (omega arith)
-
-pub few_regions : (m k : ℕ) → m ≡ regions_per L k → 1 ≤ k → m ≤ 14
-few_regions m k h g = few m (2 * k + 1) (regions_fit L k m (omega arith)) (omega arith)
+pub full_few : (m k : ℕ) (below : Option ℕ) → m ≡ capacity_by (kind_at below) k → 1 ≤ k → m ≤ 14
+full_few m k None h g = few m (k + 1) (points_fit L k m (omega arith)) (omega arith)
+full_few m k (Some level) h g = few m (2 * k + 1) (regions_fit L k m (omega arith)) (omega arith)
 
 -- and ends within its copy
-pub over_regions : (m k : ℕ) → m ≡ regions_per L k → 4 + (m + 1) * (2 * k + 1) ≤ 33 + 2 * k
-over_regions m k h = rw (add-one m) (omega (arith, suc-mul m (2 * k + 1), regions_fit L k m (omega arith)))
+pub full_ends : (m k : ℕ) (below : Option ℕ) → m ≡ capacity_by (kind_at below) k → 4 + (m + 1) * width_of (kind_at below) k ≤ 32 + width_of (kind_at below) k
+full_ends m k None h = rw (add-one m) (omega (arith, suc-mul m (k + 1), points_fit L k m (omega arith)))
+full_ends m k (Some level) h = rw (add-one m) (omega (arith, suc-mul m (2 * k + 1), regions_fit L k m (omega arith)))
 
 -- one entry more
 module _ (wd most : ℕ) (breaks : List ℕ → Grown) (m : ℕ) (u : List ℕ) (j : ℕ) (w : List ℕ) where
-  pub settle_room : m < most → length u ≤ wd → record { how = fine; words = append_in L wd w j (take wd u) } ≡ settle_in L wd most breaks m u j w
+  pub settle_room : m < most → record { how = fine; words = append_in L wd w j u } ≡ settle_in L wd most breaks m u j w
   unfolding settle_in
-  settle_room h l = rw (lt-ltb m most h, take_all wd u l)
+  settle_room h = rw (lt-ltb m most h)
 
   pub settle_full : m ≡ most → (src : List ℕ) → src ≡ overfull L wd w j u → breaks src ≡ settle_in L wd most breaks m u j w
   unfolding settle_in
   settle_full h src e = rw (le-ltb m most (omega arith), eq-eqb m most h) (ap breaks e)
 
-  pub settle_over : most ≤ m → (m ≡ most → ⊥) → record { how = short; words = w } ≡ settle_in L wd most breaks m u j w
+  pub settle_over : most < m → record { how = short; words = w } ≡ settle_in L wd most breaks m u j w
   unfolding settle_in
-  settle_over h g = rw (le-ltb m most h, ne_eqb m most g)
+  settle_over h = rw (le-ltb m most (omega arith), ne_eqb m most (λ z. omega arith))
 
 -- the record's words
 sets_snoc : (l : List ℕ) (i : ℕ) (u : List ℕ) (a : ℕ) → set (sets l i u) (i + length u) a ≡ sets l i (u ++ (a ∷ []))
 sets_snoc l i [] a = rw (add-zero i)
 sets_snoc l i (b ∷ u) a = let q : i + suc (length u) ≡ suc i + length u = omega arith in rw q (sets_snoc (set l i b) (suc i) u a)
 
-pub record_words : (k : ℕ) (p : Key) (l : ℕ) → length p ≡ k → k ≤ 4 → take (k + 1) (set (sets (replicate 5 0) 0 p) k l) ≡ p ++ (l ∷ [])
-record_words k p l h g =
+pub record_is : (p : Key) (l : ℕ) → length p ≤ 4 → take (length p + 1) (set (sets (replicate 5 0) 0 p) (length p) l) ≡ p ++ (l ∷ [])
+record_is p l g =
     let u = p ++ (l ∷ []) in
-    let n : length u ≡ k + 1 = length-append p (l ∷ []) ∙ omega arith in
-    let q : k ≡ 0 + length p = omega arith in
+    let n : length u ≡ length p + 1 = length-append p (l ∷ []) in
+    let q : length p ≡ 0 + length p = omega arith in
     ap₂ (λ i m. take i (set (sets (replicate 5 0) 0 p) m l)) (sym n) q ∙ ap (take (length u)) (sets_snoc (replicate 5 0) 0 p l)
     ∙ ap (take (length u)) (sets-eq u (replicate 5 0) 0 (omega arith)) ∙ take_at u (drop (0 + length u) (replicate 5 0)) (length u) refl
 
 -- growing
-pub grow_points : (n k : ℕ) (p : Key) (l j : ℕ) (w : List ℕ) → settle_points n k (word L w j 1) (word L w j 2) (p ++ (l ∷ [])) j w ≡ grow_in L n k (regions_per L k) (points_per L k) p l 0 j w
+pub grow_point : (n k : ℕ) (p : Key) (l j : ℕ) (w : List ℕ) → settle_at n k None (p ++ (l ∷ [])) j w ≡ grow_in L n k (regions_per L k) (points_per L k) p l 0 j w
 unfolding grow_in
-grow_points n k p l j w = refl
+grow_point n k p l j w = refl
 
-pub widen_is : (n k level d x r a j : ℕ) (w : List ℕ)
-    → settle_regions n k level (word L w j 1) (word L w j 2) (half_in k w a d x r) j (set w (a + k + d) x) ≡ widen_in L n k (regions_per L k) (points_per L k) level d x r a j w
+pub widen_is : (n k level d x r a j : ℕ) (w : List ℕ) → L * j + 4 ≤ a
+    → settle_at n k (Some level) (half_in k (take (2 * k + 1) (drop a w)) d x r) j (set w (a + k + d) x) ≡ widen_in L n k (regions_per L k) (points_per L k) level d x r a j w
 unfolding widen_in
-widen_is n k level d x r a j w = refl
+widen_is n k level d x r a j w h =
+    let m : get_or (set w (a + k + d) x) (L * j + 1) 0 ≡ get_or w (L * j + 1) 0 = get_or-set_other w (a + k + d) (L * j + 1) x 0 (λ z. omega arith) in
+    let e : get_or (set w (a + k + d) x) (L * j + 2) 0 ≡ get_or w (L * j + 2) 0 = get_or-set_other w (a + k + d) (L * j + 2) x 0 (λ z. omega arith) in
+    rw (m, e)
 
-kept : (n k R P l a j : ℕ) (g : Answer) (v : List ℕ) → g.page ≡ 0 → grown_as g v ≡ up_in L n k R P l a j (grown_as g v)
-kept n k R P l a j g v z = rw (eq-eqb g.page 0 z) (go g.ok)
-  where
-    go : (t : Bool) → ◌≡◌ {A = Grown} (record { how = cond t fine short; words = v }) (up_in L n k R P l a j (record { how = cond t fine short; words = v }))
-    go true = refl
-    go false = refl
+module _ (n k R P level : ℕ) (p : Key) (loc j : ℕ) (w : List ℕ) (l : ℕ) (s : level ≡ suc l) where
+  pub grow_lost : (q : Result (Option Broken) Wanting) → IsErr q → 0 ≡ seek_in k p (word L w j 1) w (L * j + 4) → grown_as q w ≡ grow_in L n k R P p loc level j w
+  unfolding grow_in
+  grow_lost q i h = short_is q w i ∙ rw (s, ← h)
 
-wider : (n k R P l a j : ℕ) (g : Answer) (v : List ℕ) → (g.page ≡ 0 → ⊥)
-    → widen_in L n k R P l g.domain g.key g.page a j v ≡ up_in L n k R P l a j (grown_as g v)
-wider n k R P l a j g v z = rw (ne_eqb g.page 0 z)
-
-module _ (n k R P level : ℕ) (p : Key) (loc j : ℕ) (w : List ℕ) where
-  pub grow_level : level ≡ 0 → grow_in L n k R P p loc 0 j w ≡ grow_in L n k R P p loc level j w
-  grow_level z = rw z
-
-  module _ (l a : ℕ) (s : level ≡ suc l) (h : a ≡ seek_in k p (word L w j 1) w (L * j + 4)) where
-    pub grow_lost : a ≡ 0 → record { how = short; words = w } ≡ grow_in L n k R P p loc level j w
+  module _ (a : ℕ) (h : a ≡ seek_in k p (word L w j 1) w (L * j + 4)) (z : 1 ≤ a) (v : List ℕ) where
+    up : (g : Grown) → g ≡ grow_in L n k R P p loc l (get_or w (a + 2 * k) 0) w → up_in L n k R P l a j g ≡ grow_in L n k R P p loc level j w
     unfolding grow_in
-    grow_lost z = rw (s, ← h, eq-eqb a 0 z)
+    up g q = rw (s, ← h, ne_eqb a 0 (λ b. omega arith)) (ap (up_in L n k R P l a j) q)
 
-    module _ (z : a ≡ 0 → ⊥) (g : Answer) (v : List ℕ) (q : grown_as g v ≡ grow_in L n k R P p loc l (get_or w (a + 2 * k) 0) w) where
-      up : up_in L n k R P l a j (grown_as g v) ≡ grow_in L n k R P p loc level j w
-      unfolding grow_in
-      up = rw (s, ← h, ne_eqb a 0 z) (ap (up_in L n k R P l a j) q)
+    pub grow_short : (q : Result (Option Broken) Wanting) → IsErr q → record { how = short; words = v } ≡ grow_in L n k R P p loc l (get_or w (a + 2 * k) 0) w
+        → grown_as q v ≡ grow_in L n k R P p loc level j w
+    grow_short q i g = short_is q v i ∙ up (record { how = short; words = v }) g
 
-      pub grow_kept : g.page ≡ 0 → grown_as g v ≡ grow_in L n k R P p loc level j w
-      grow_kept y = kept n k R P l a j g v y ∙ up
+    pub grow_kept : record { how = fine; words = v } ≡ grow_in L n k R P p loc l (get_or w (a + 2 * k) 0) w → record { how = fine; words = v } ≡ grow_in L n k R P p loc level j w
+    grow_kept g = up (grown_as (Ok None) v) g
 
-      pub grow_wider : (g.page ≡ 0 → ⊥) → widen_in L n k R P l g.domain g.key g.page a j v ≡ grow_in L n k R P p loc level j w
-      grow_wider y = wider n k R P l a j g v y ∙ up
+    pub grow_wider : (b : Broken) → grown_as (Ok (Some b)) v ≡ grow_in L n k R P p loc l (get_or w (a + 2 * k) 0) w
+        → widen_in L n k R P l b.cut.domain b.cut.key b.page a j v ≡ grow_in L n k R P p loc level j w
+    grow_wider b g = up (grown_as (Ok (Some b)) v) g

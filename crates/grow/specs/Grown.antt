@@ -1,31 +1,48 @@
--- How a page took an entry, and the two ways in which a page takes one more entry, in the terms of the machine forms.
-use Rattle.std.specs.Prelude.{cond, List, map, ℕ, ◌+◌, ◌*◌, ◌<◌, eqb, drop}
+-- How a page took an entry, and how a page of either kind takes one more, in the terms of the machine forms.
+use Rattle.std.specs.Prelude.{List, map, ℕ, ◌+◌, ◌<◌, drop, Option, Some, None, Result, Ok, Err}
 use Rattle.kdb.specs.Calls.{L}
-use Rattle.kdb.specs.Cut.{cut_points, cut_regions}
+use Rattle.kdb.specs.Cut.{Cut, cut_points, cut_regions}
 use Rattle.kdb.specs.Pages.{regions_per, points_per, read_recs, read_ents}
 use Rattle.kdb.specs.declared.Form.{Form}
-use Rattle.deal.specs.Part.{Along}
-use Rattle.steps.specs.Grow.{How, short, fine, broke, Grown, settle_in, break_points, break_regions}
-use Rattle.grow.specs.declared.Grown.{Grown as Answer}
+use Rattle.words.specs.Words.{word, width_of, capacity_by}
+use Rattle.words.specs.declared.Kind.{Kind}
+use Rattle.words.specs.declared.Kind.TheVariants.{Region, Point}
+use Rattle.deal.specs.Part.{PageIn}
+use Rattle.deal.specs.declared.Wanting.{Wanting}
+use Rattle.steps.specs.Grow.{short, fine, broke, Grown, settle_in, break_points, break_regions}
+use Rattle.grow.specs.declared.Broken.{Broken}
 
-abbrev pub how_of : Answer → How
-how_of g = cond (eqb g.page 0) (cond g.ok fine short) (broke g.domain g.key g.page)
+-- not, for want of a page; with room; or broken
+abbrev pub grown_as : Result (Option Broken) Wanting → List ℕ → Grown
+grown_as (Err _) w = record { how = short; words = w }
+grown_as (Ok None) w = record { how = fine; words = w }
+grown_as (Ok (Some b)) w = record { how = broke b.cut.domain b.cut.key b.page; words = w }
 
-abbrev pub grown_as : Answer → List ℕ → Grown
-grown_as g w = record { how = how_of g; words = w }
+-- a page that there is, and a domain
+pub record Real (f : Form) (b : Broken) : Type 0 where
+  pub page : PageIn f b.page
+  pub domain : b.cut.domain < f.domains
 
--- a page that there is, and a cut that can be
-pub record Real (f : Form) (g : Answer) : Type 0 where
-  pub page : g.page < f.pages
-  pub cut : Along f g.domain g.key
+-- the kind of a page with that level below it
+abbrev pub kind_at : Option ℕ → Kind
+kind_at None = Point
+kind_at (Some _) = Region
 
--- page j of domain e takes the entry u behind its m entries
-abbrev pub settle_points : ℕ → ℕ → ℕ → ℕ → List ℕ → ℕ → List ℕ → Grown
-settle_points n k m e u j w =
-    let P = points_per L k in
-    settle_in L (k + 1) P (λ src. break_points L n k (regions_per L k) P (cut_points k e (read_recs k (m + 1) (drop 4 src))) src (m + 1) j w) m u j w
+-- the cut that the m entries of src offer from domain e on
+abbrev pub cut_at : ℕ → Option ℕ → ℕ → List ℕ → ℕ → Cut
+cut_at k None e src m = cut_points k e (read_recs k m (drop 4 src))
+cut_at k (Some _) e src m = cut_regions k e (map (λ e. e.box) (read_ents k m (drop 4 src)))
 
-abbrev pub settle_regions : ℕ → ℕ → ℕ → ℕ → ℕ → List ℕ → ℕ → List ℕ → Grown
-settle_regions n k level m e u j w =
-    let R = regions_per L k in
-    settle_in L (2 * k + 1) R (λ src. break_regions L n k R (points_per L k) level (cut_regions k e (map (λ e. e.box) (read_ents k (m + 1) (drop 4 src)))) src (m + 1) j w) m u j w
+-- the m entries of src are split along a cut
+abbrev pub broken_at : ℕ → ℕ → Option ℕ → Cut → List ℕ → ℕ → ℕ → List ℕ → Grown
+broken_at n k None c src m j w = break_points L n k (regions_per L k) (points_per L k) c src m j w
+broken_at n k (Some level) c src m j w = break_regions L n k (regions_per L k) (points_per L k) level c src m j w
+
+abbrev pub break_at : ℕ → ℕ → Option ℕ → ℕ → List ℕ → ℕ → ℕ → List ℕ → Grown
+break_at n k below e src m j w = broken_at n k below (cut_at k below e src m) src m j w
+
+-- page j takes the entry u behind its last one
+abbrev pub settle_at : ℕ → ℕ → Option ℕ → List ℕ → ℕ → List ℕ → Grown
+settle_at n k below u j w =
+    let m = word L w j 1 in
+    settle_in L (width_of (kind_at below) k) (capacity_by (kind_at below) k) (λ src. break_at n k below (word L w j 2) src (m + 1) j w) m u j w

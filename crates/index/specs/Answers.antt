@@ -1,9 +1,8 @@
 -- The outcome that an answer of a call is, with the buffers at exit.
-use Rattle.std.specs.Prelude.{[], ◌∷◌}
-use Rattle.kdb.specs.Calls.{Buffers, Outcome, gives, refuses}
-use Rattle.index.specs.declared.Removed.{Removed}
-use Rattle.index.specs.declared.Removed.TheVariants as removes
+use Rattle.std.specs.Prelude.{[], ◌∷◌, ℕ, Result}
+use Rattle.kdb.specs.declared.Refusal.{Refusal}
+use Rattle.kdb.specs.Calls.{Buffers, Outcome}
+use Rattle.opening.specs.Opens.{answer_as}
 
-abbrev pub removed_as : Removed → Buffers → Outcome
-removed_as (removes.At location) b = gives (location ∷ []) b
-removed_as (removes.Refused r) b = refuses r b
+abbrev pub removed_as : Result ℕ Refusal → Buffers → Outcome
+removed_as = answer_as (λ l. l ∷ [])

@@ -1,122 +1,78 @@
 #![tactic(auto)]
 
 // Reads frames from standard input, a line each, and writes the answers to standard output after each read.
-ghost use Rattle.std.specs.Prelude.{true, ◌≡◌, ◌≤◌, length};
-ghost use Rattle.frames.specs.State.{store_of, kept};
+ghost use Rattle.std.specs.Prelude.{◌≡◌, ◌≤◌, length, IfOk};
 
 use frames::Held;
-use std::io::{Read, Write};
+use std::io::{self, Read, Write};
 
-// What is kept between two reads, and whether the output still takes bytes.
-#[derive(Clone, Copy)]
-struct Passed {
-    words: usize,
-    digits: usize,
-    open: bool,
+// All that is kept between two reads, and the buffers of a call.
+#[derive(Drop)]
+struct Session {
+    held: Held,
+    line: [u8; 128],
+    pool: [u32; 16384],
+    work: [u32; 16384],
+    out: [u8; 65536],
+    ghost bounded: { held.words ≤ 16384 },
 }
 
-// Feeds every byte that was read, once and in order, and writes each part of the output; it stops where the output takes no more.
-fn pass<W: Write>(
-    piece: &[u8],
-    from: Held,
-    line: &mut [u8; 128],
-    pool: &mut [u32; 16384],
-    work: &mut [u32; 16384],
-    out: &mut [u8],
-    writer: &mut W,
-) -> Passed
-    requires { (length out.old ≡ 65536) × (from.words ≤ 16384) }
-    ensures { (result.words ≤ 16384)
-        × (result.open ≡ true → store_of result.words result.digits line.new pool.new work.new
-        ≡ kept (store_of from.words from.digits line.old pool.old work.old) piece.now) }
-{
-    let mut words = from.words;
-    let mut digits = from.digits;
-    let mut at: usize = 0;
-    while at < piece.len() {
-        let t = frames::feed(
-            &piece[at..],
-            Held {
-                words: words,
-                digits: digits,
-            },
-            line,
-            pool,
-            work,
-            out,
+impl Session {
+    ghost use Rattle.korytanka.specs.Session.{Passes};
+
+    // Feeds every byte that was read, once and in order, and writes each part of the output; it stops where the output takes no more.
+    fn pass<W: Write>(&mut self, piece: &[u8], writer: &mut W) -> io::Result<()>
+        ensures { IfOk result (λ done. Passes self.old piece.now self.new) }
+    {
+        let mut rest = piece;
+        while !rest.is_empty() {
+            let t = frames::feed(
+                rest,
+                self.held,
+                &mut self.line,
+                &mut self.pool,
+                &mut self.work,
+                &mut self.out,
+            );
+            writer.write_all(&self.out[..t.written])?;
+            self.held = t.held;
+            rest = &rest[t.taken..];
+        }
+        Ok(())
+    }
+
+    // Reads to the end of the input, or until the output takes no more.
+    fn run<R: Read, W: Write>(&mut self, reader: &mut R, writer: &mut W) -> io::Result<()> {
+        let mut input = [0u8; 65536];
+        for _turn in 0..u64::MAX {
+            let n = reader.read(&mut input).unwrap_or(0);
+            if n == 0 {
+                break;
+            }
+            self.pass(&input[..n], writer)?;
+        }
+        let last = frames::finish(
+            self.held,
+            &self.line,
+            &mut self.pool,
+            &mut self.work,
+            &mut self.out,
         );
-        words = t.words;
-        digits = t.digits;
-        let written = t.written;
-        if writer.write_all(&out[..written]).is_err() {
-            return Passed {
-                words: words,
-                digits: digits,
-                open: false,
-            };
-        }
-        at += t.taken;
-    }
-    Passed {
-        words: words,
-        digits: digits,
-        open: true,
+        writer.write_all(&self.out[..last.at])
     }
 }
 
-// Reads to the end of the input, or until the output takes no more.
-fn run<R: Read, W: Write>(
-    reader: &mut R,
-    writer: &mut W,
-    pool: &mut [u32; 16384],
-    work: &mut [u32; 16384],
-) {
-    let mut line = [0u8; 128];
-    let mut input = [0u8; 65536];
-    let mut out = [0u8; 65536];
-    let mut words: usize = 0;
-    let mut digits: usize = 0;
-    let mut turns = u64::MAX;
-    while turns > 0 {
-        let n = reader.read(&mut input).unwrap_or(0);
-        if n == 0 {
-            break;
-        }
-        let p = pass(
-            &input[..n],
-            Held {
-                words: words,
-                digits: digits,
-            },
-            &mut line,
-            pool,
-            work,
-            &mut out,
-            writer,
-        );
-        if !p.open {
-            return;
-        }
-        words = p.words;
-        digits = p.digits;
-        turns -= 1;
-    }
-    let last = frames::finish(
-        Held {
-            words: words,
-            digits: digits,
-        },
-        &line,
-        pool,
-        work,
-        &mut out,
-    );
-    let written = last.at;
-    let _last = writer.write_all(&out[..written]).is_ok();
-}
-
+// The program ends well, whether or not the output took all.
 fn main(rt: HostRuntime) {
-    let mut pool = [0u32; 16384];
-    let mut work = [0u32; 16384];
-    run(&mut rt.stdin(), &mut rt.stdout(), &mut pool, &mut work);
+    let mut session = Session {
+        held: Held {
+            words: 0,
+            digits: 0,
+        },
+        line: [0; 128],
+        pool: [0; 16384],
+        work: [0; 16384],
+        out: [0; 65536],
+    };
+    let _ = session.run(&mut rt.stdin(), &mut rt.stdout());
 }

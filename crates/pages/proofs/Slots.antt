@@ -1,155 +1,94 @@
--- Laws of one turn and of the end of the loops over the points of a page and over their keys.
-use mathlib.Core.Bool.{Bool, true, false, ◌&&◌}
-use mathlib.Core.List.{List, [], ◌∷◌}
-use mathlib.Core.Path.{◌≡◌, refl, sym, ap, subst, ◌∙◌}
-use Prim.Native.Nat.{ℕ, suc, ◌+◌, ◌-◌, ◌<◌, ◌≤◌}
+-- The points that stand in words one behind the other, as code meets them: the tests of their columns and of their keys.
+use mathlib.Core.Bool.{Bool, true, false, ◌&&◌, not}
+use mathlib.Core.List.{List, [], ◌∷◌, map}
+use mathlib.Core.Path.{◌≡◌, refl, sym, ap, ap₂, ◌∙◌}
+use Prim.Native.Nat.{ℕ, zero, suc, ◌+◌, ◌/◌, ◌<◌, ◌≤◌}
 use native.Mathlib.Omega.{arith}
 use native.Mathlib.Nat.{zero-add}
 use native.Mathlib.Numerals.{add-one}
-use lib.Dec.{leb, eqb}
-use lib.ListN.{length, drop, get_or, length-take, length-drop, drop_of_length-le}
-use lib.Seq.{drop-cons, get_or-take, get_or-drop, length-take-le}
-use borrow.Author.Tests.{eq-eqb, ne_eqb, lt-ltb, le-ltb, le-leb, lt-leb}
-use Rattle.kdb.specs.Lists.{every, Each, same, tally}
-use Rattle.kdb.specs.Box.{Side, Box, Key, within}
+use lib.Dec.{eqb}
+use lib.ListN.{length, take, drop, get_or, drop_of_length-le}
+use lib.Seq.{drop-cons, get_or-take}
+use borrow.Author.Tests.{ne_eqb}
+use Rattle.std.proofs.lemmas.List.{take-take}
+use Rattle.std.specs.Cmp.Lexicographic.{pointwise}
+use Rattle.std.specs.List.{list_all, range_with_len}
+use Rattle.kdb.specs.Lists.{bit, every, Each, same, tally}
+use Rattle.kdb.specs.Box.{Side, Box, Key, sides, within}
 use Rattle.kdb.specs.Tree.{Rec}
 use Rattle.kdb.specs.Pages.{read_recs}
-use Rattle.kdb.proofs.Tests.{and_assoc, and_swap, and_false}
-use Rattle.kdb.proofs.Pages.{recs_keys}
-use Rattle.kdb.proofs.Words.{rec_turn}
-use Rattle.words.specs.Words.{region_at, RegionIn}
-use Rattle.cover.specs.Boxes.{Run}
-use Rattle.cover.proofs.Loops.{row_first, row_next, side_at, side_turn, side_end}
-use Rattle.pages.specs.Tests.{rec_key, key_inside, column_in, unlike, PointIn}
+use Rattle.kdb.proofs.Tests.{and_assoc, and_swap}
+use Rattle.boxes.proofs.Tests.{long}
+use Rattle.cover.proofs.Entries.{pieces, pieces_of, every_map}
+use Rattle.cover.proofs.Sides.{sides_turn}
+use Rattle.pages.specs.Tests.{recs_of, key_inside, column_in, unlike}
 
--- a number below, past and in a side
-module _ (s : Side) (x : ℕ) where
-  pub key_under : x < s.lo → key_inside s x ≡ false
-  key_under h = rw (lt-leb s.lo x h)
+-- the record of a point's words
+abbrev pub rec_in : ℕ → List ℕ → Rec
+rec_in k c = record { key = take k c; loc = get_or c k 0 }
 
-  pub key_past : s.hi ≤ x → key_inside s x ≡ false
-  key_past h = rw (le-ltb x s.hi h) (and_false (leb s.lo x))
+rec_is : (k : ℕ) (ws : List ℕ) → rec_in k (take (k + 1) ws) ≡ rec_in k ws
+rec_is k ws = ap₂ (λ (x : Key) (y : ℕ). record { key = x; loc = y }) (take-take k (k + 1) ws (omega arith)) (get_or-take (k + 1) ws k 0 (omega arith))
 
-  pub key_in : s.lo ≤ x → x < s.hi → key_inside s x ≡ true
-  key_in h g = rw (le-leb s.lo x h, lt-ltb x s.hi g)
+recs_pieces : (k n : ℕ) (ws : List ℕ) → map (rec_in k) (pieces (k + 1) n ws) ≡ read_recs k n ws
+recs_pieces k zero ws = refl
+recs_pieces k (suc n) ws = ap₂ ◌∷◌ (rec_is k ws) (recs_pieces k n (drop (k + 1) ws))
 
--- the key in domain d of the point at word a, and those after it
-pub key_here : (w : List ℕ) (k a d : ℕ) → d < k → get_or (rec_key k w a) d 0 ≡ get_or w (a + d) 0
-key_here w k a d h = get_or-take k (drop a w) d 0 h ∙ get_or-drop a w d 0
+-- the keys in one domain
+all_same : {A : Type 0} (f g : A → Bool) → ((a : A) → f a ≡ g a) → (l : List A) → list_all f l ≡ list_all g l
+all_same f g h [] = refl
+all_same f g h (a ∷ l) = ap₂ ◌&&◌ (h a) (all_same f g h l)
 
-key_turn : (w : List ℕ) (k a d : ℕ) → PointIn w k a → d < k → drop d (rec_key k w a) ≡ get_or w (a + d) 0 ∷ drop (d + 1) (rec_key k w a)
-key_turn w k a d g h =
-    let m : length (rec_key k w a) ≡ k = length-take-le k (drop a w) (omega (arith, length-drop a w, g.ends)) in
-    rw (add-one d) (rw (key_here w k a d h) at (drop-cons (rec_key k w a) d 0 (omega arith)))
+pub column_pieces : (k d : ℕ) (s : Side) (ws : List ℕ) → d < k → list_all (λ c. key_inside s (get_or c d 0)) (pieces_of (k + 1) ws) ≡ column_in d s (recs_of k ws)
+column_pieces k d s ws h =
+    all_same (λ c. key_inside s (get_or c d 0)) (λ c. key_inside s (get_or (take k c) d 0)) (λ c. ap (key_inside s) (sym (get_or-take k c d 0 h))) (pieces_of (k + 1) ws)
+    ∙ every_map (λ q. key_inside s (get_or q.key d 0)) (rec_in k) (pieces_of (k + 1) ws)
+    ∙ ap (column_in d s) (recs_pieces k (length ws / (k + 1)) ws)
 
-key_end : (w : List ℕ) (k a d : ℕ) → k ≤ d → drop d (rec_key k w a) ≡ []
-key_end w k a d h = drop_of_length-le (rec_key k w a) {i = d} (omega (arith, length-take k (drop a w)))
+-- a key that is none of those of the points
+pub unlike_cons : (x : Key) (q : Rec) (rs : List Rec) → unlike x (q ∷ rs) ≡ not (same x q.key) && unlike x rs
+unlike_cons x q rs = go (same x q.key)
+  where
+    go : (b : Bool) → eqb (bit b + tally (λ r. same x r.key) rs) 0 ≡ not b && unlike x rs
+    go true = ne_eqb _ 0 (λ z. omega arith)
+    go false = rw zero-add
 
--- two keys: the test of them from domain d on is v
-pub record Twin (w : List ℕ) (k a b d : ℕ) (v : Bool) : Type 0 where
-  pub one : PointIn w k a
-  pub other : PointIn w k b
-  pub rest : same (drop d (rec_key k w a)) (drop d (rec_key k w b)) ≡ v
+unlike_every : (x : Key) (rs : List Rec) → every (λ q. not (same x q.key)) rs ≡ unlike x rs
+unlike_every x [] = refl
+unlike_every x (q ∷ rs) = ap (λ b. not (same x q.key) && b) (unlike_every x rs) ∙ sym (unlike_cons x q rs)
 
-module _ (w : List ℕ) (k a b d : ℕ) (v : Bool) (m : Twin w k a b d v) where
-  pub twin_end : k ≤ d → true ≡ v
-  twin_end h = rw (key_end w k a d h, key_end w k b d h) at m.rest
+pub unlike_pieces : (k : ℕ) (x : Key) (ws : List ℕ) → list_all (λ c. not (same x (take k c))) (pieces_of (k + 1) ws) ≡ unlike x (recs_of k ws)
+unlike_pieces k x ws =
+    every_map (λ q. not (same x q.key)) (rec_in k) (pieces_of (k + 1) ws)
+    ∙ unlike_every x (map (rec_in k) (pieces_of (k + 1) ws))
+    ∙ ap (unlike x) (recs_pieces k (length ws / (k + 1)) ws)
 
-  module _ (l : d < k) where
-    turn : eqb (get_or w (a + d) 0) (get_or w (b + d) 0) && same (drop (d + 1) (rec_key k w a)) (drop (d + 1) (rec_key k w b)) ≡ v
-    turn = rw (key_turn w k a d m.one l, key_turn w k b d m.other l) at m.rest
-
-    pub twin_stop : (get_or w (a + d) 0 ≡ get_or w (b + d) 0 → ⊥) → false ≡ v
-    twin_stop t = rw (ne_eqb _ _ t) at turn
-
-    pub twin_next : get_or w (a + d) 0 ≡ get_or w (b + d) 0 → Twin w k a b (d + 1) v
-    twin_next t = record { one = m.one; other = m.other; rest = rw (eq-eqb _ _ t) at turn }
-
--- n points from word a on: the test of their keys in domain d, and of their keys against x, is v
-pub record Column (w : List ℕ) (k a n d : ℕ) (s : Side) (v : Bool) : Type 0 where
-  pub row : Run w (k + 1) a n
-  pub rest : column_in d s (read_recs k n (drop a w)) ≡ v
-
-pub record Unlike (w : List ℕ) (k a n : ℕ) (x : Key) (v : Bool) : Type 0 where
-  pub row : Run w (k + 1) a n
-  pub rest : unlike x (read_recs k n (drop a w)) ≡ v
-
-recs_end : (k c e : ℕ) (w : List ℕ) (a : ℕ) → c ≤ e → read_recs k (c - e) (drop a w) ≡ []
-recs_end k c e w a l = let q : c - e ≡ 0 = omega arith in rw q
-
-module _ (w : List ℕ) (k a c e d : ℕ) (s : Side) (v : Bool) (m : Column w k a (c - e) d s v) where
-  pub column_end : c ≤ e → true ≡ v
-  column_end l = rw (recs_end k c e w a l) at m.rest
-
-  module _ (l : e < c) (h : d < k) where
-    first : key_inside s (get_or w (a + d) 0) && column_in d s (read_recs k (c - (e + 1)) (drop (a + (k + 1)) w)) ≡ v
-    first = rw (rec_turn k c e w a l, key_here w k a d h) at m.rest
-
-    pub column_stop : key_inside s (get_or w (a + d) 0) ≡ false → false ≡ v
-    column_stop t = rw t at first
-
-    pub column_next : key_inside s (get_or w (a + d) 0) ≡ true → Column w k (a + (k + 1)) (c - (e + 1)) d s v
-    column_next t = record { row = row_next w (k + 1) a c e m.row l; rest = rw t at first }
-
-module _ (w : List ℕ) (k a c e : ℕ) (x : Key) (v : Bool) (m : Unlike w k a (c - e) x v) where
-  pub unlike_end : c ≤ e → true ≡ v
-  unlike_end l = rw (recs_end k c e w a l) at m.rest
-
-  module _ (l : e < c) where
-    pub unlike_stop : same x (rec_key k w a) ≡ true → false ≡ v
-    unlike_stop t = sym (ne_eqb (1 + tally (λ q. same x q.key) (read_recs k (c - (e + 1)) (drop (a + (k + 1)) w))) 0 (λ z. omega arith)) ∙ (rw t at (rw (rec_turn k c e w a l) at m.rest))
-
-    pub unlike_next : same x (rec_key k w a) ≡ false → Unlike w k (a + (k + 1)) (c - (e + 1)) x v
-    unlike_next t = record { row = row_next w (k + 1) a c e m.row l; rest = rw zero-add at (rw t at (rw (rec_turn k c e w a l) at m.rest)) }
+pub pointwise_same : (xs ys : List ℕ) → pointwise eqb xs ys ≡ same xs ys
+pointwise_same [] [] = refl
+pointwise_same [] (y ∷ ys) = refl
+pointwise_same (x ∷ xs) [] = refl
+pointwise_same (x ∷ xs) (y ∷ ys) = ap (λ b. eqb x y && b) (pointwise_same xs ys)
 
 -- points in a region, domain by domain: those in the side of domain d, and in the sides after it
-module _ (k d : ℕ) where
-  columns : (s : Side) (r : Box) (rs : List Rec) → Each (λ q. length q.key ≡ k) rs → d < k
-      → every (λ q. within (s ∷ r) (drop d q.key)) rs ≡ column_in d s rs && every (λ q. within r (drop (d + 1) q.key)) rs
-  columns s r [] h l = refl
-  columns s r (q ∷ rs) h l =
-      let x = key_inside s (get_or q.key d 0) in
-      let y = within r (drop (suc d) q.key) in
-      let u = column_in d s rs in
-      subst (λ n. every (λ a. within (s ∷ r) (drop d a.key)) (q ∷ rs) ≡ column_in d s (q ∷ rs) && every (λ a. within r (drop n a.key)) (q ∷ rs)) (sym (add-one d))
-      (rw (drop-cons q.key d 0 (omega (arith, h.0)))
-      (ap (λ t. (x && y) && t) (subst (λ n. every (λ a. within (s ∷ r) (drop d a.key)) rs ≡ column_in d s rs && every (λ a. within r (drop n a.key)) rs) (add-one d) (columns s r rs h.1 l))
-      ∙ (and_assoc x y _ ∙ (ap (λ t. x && t) (and_swap y u _) ∙ sym (and_assoc x u _)))))
+columns : (k d : ℕ) (s : Side) (r : Box) (rs : List Rec) → Each (λ q. length q.key ≡ k) rs → d < k
+    → column_in d s rs && every (λ q. within r (drop (d + 1) q.key)) rs ≡ every (λ q. within (s ∷ r) (drop d q.key)) rs
+columns k d s r [] h l = refl
+columns k d s r (q ∷ rs) h l =
+    let x = key_inside s (get_or q.key d 0) in
+    let y = within r (drop (d + 1) q.key) in
+    let u = column_in d s rs in
+    let v = every (λ a. within r (drop (d + 1) a.key)) rs in
+    let e : within (s ∷ r) (drop d q.key) ≡ x && y = rw (drop-cons q.key d 0 (omega (arith, h.0)), add-one) in
+    and_assoc x u (y && v) ∙ (ap (λ t. x && t) (and_swap u y v) ∙ (sym (and_assoc x y (u && v)) ∙ ap₂ ◌&&◌ (sym e) (columns k d s r rs h.1 l)))
 
-  columns_end : (rs : List Rec) → Each (λ q. length q.key ≡ k) rs → k ≤ d → every (λ q. within [] (drop d q.key)) rs ≡ true
-  columns_end [] h l = refl
-  columns_end (q ∷ rs) h l = rw (drop_of_length-le q.key {i = d} (omega (arith, h.0))) (columns_end rs h.1 l)
+columns_end : (k d : ℕ) (rs : List Rec) → Each (λ q. length q.key ≡ k) rs → k ≤ d → true ≡ every (λ q. within [] (drop d q.key)) rs
+columns_end k d [] h l = refl
+columns_end k d (q ∷ rs) h l = rw (drop_of_length-le q.key {i = d} (omega (arith, h.0))) (columns_end k d rs h.1 l)
 
--- the test of n points from word a on, from domain d on, is v
-pub record Lying (k : ℕ) (p : List ℕ) (a n : ℕ) (q : List ℕ) (b d : ℕ) (v : Bool) : Type 0 where
-  pub row : Run p (k + 1) a n
-  pub region : RegionIn q k b
-  pub rest : every (λ x. within (drop d (region_at k q b)) (drop d x.key)) (read_recs k n (drop a p)) ≡ v
-
-module _ (k : ℕ) (p : List ℕ) (a n : ℕ) (q : List ℕ) (b d : ℕ) (v : Bool) (m : Lying k p a n q b d v) where
-  long : Each (λ x. length x.key ≡ k) (read_recs k n (drop a p))
-  long = recs_keys k n (drop a p) (omega (arith, length-drop a p, m.row.ends))
-
-  pub lying_end : k ≤ d → true ≡ v
-  lying_end h = sym (columns_end k d (read_recs k n (drop a p)) long h) ∙ (rw (side_end q k b d h) at m.rest)
-
-  module _ (l : d < k) where
-    column : column_in d (side_at q k b d) (read_recs k n (drop a p)) && every (λ x. within (drop (d + 1) (region_at k q b)) (drop (d + 1) x.key)) (read_recs k n (drop a p)) ≡ v
-    column = sym (columns k d (side_at q k b d) (drop (d + 1) (region_at k q b)) (read_recs k n (drop a p)) long l) ∙ (rw (side_turn q k b d m.region l) at m.rest)
-
-    pub lying_stop : column_in d (side_at q k b d) (read_recs k n (drop a p)) ≡ false → false ≡ v
-    lying_stop t = rw t at column
-
-    pub lying_next : column_in d (side_at q k b d) (read_recs k n (drop a p)) ≡ true → Lying k p a n q b (d + 1) v
-    lying_next t = record { row = m.row; region = m.region; rest = rw t at column }
-
-pub point_first : (w : List ℕ) (k a c e : ℕ) → Run w (k + 1) a (c - e) → e < c → PointIn w k a
-point_first w k a c e h l = let r = row_first w (k + 1) a c e h l in record { near = omega (arith, h.near); few = omega (arith, h.wide); ends = omega arith }
-
--- the first of one point and n more, and those
-pub point_all : (w : List ℕ) (k a n : ℕ) → Run w (k + 1) a (n + 1) → PointIn w k a × Run w (k + 1) (a + (k + 1)) n
-point_all w k a n h =
-    let q : n + 1 - 0 ≡ n + 1 = omega arith in
-    let z : n + 1 - (0 + 1) ≡ n = omega arith in
-    let r : Run w (k + 1) a (n + 1 - 0) = rw q h in
-    (point_first w k a (n + 1) 0 r (omega arith), rw z at (row_next w (k + 1) a (n + 1) 0 r (omega arith)))
+pub all_columns : (k : ℕ) (ls us : List ℕ) (rs : List Rec) → Each (λ q. length q.key ≡ k) rs → length ls ≡ k → length us ≡ k → (i m : ℕ) → i + m ≡ k
+    → list_all (λ d. column_in d (record { lo = get_or ls d 0; hi = get_or us d 0 }) rs) (range_with_len i m) ≡ every (λ q. within (drop i (sides ls us)) (drop i q.key)) rs
+all_columns k ls us rs h a b i zero e = rw (drop_of_length-le (sides ls us) {i = i} (omega (arith, long ls us))) (columns_end k i rs h (omega arith))
+all_columns k ls us rs h a b i (suc m) e =
+    let s : Side = record { lo = get_or ls i 0; hi = get_or us i 0 } in
+    let t : drop i (sides ls us) ≡ s ∷ drop (i + 1) (sides ls us) = rw add-one (sides_turn ls us i (omega arith) (omega arith)) in
+    rw t (ap (λ x. column_in i s rs && x) (all_columns k ls us rs h a b (i + 1) m (omega arith)) ∙ columns k i s (drop (i + 1) (sides ls us)) rs h (omega arith))

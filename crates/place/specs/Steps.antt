@@ -7,6 +7,10 @@ use Rattle.kdb.specs.Pool.{root_at, levels_at, count_at}
 use Rattle.steps.specs.Machine.{Passed}
 use Rattle.steps.specs.Grow.{grow_in}
 use Rattle.steps.specs.Place.{topped_in, first_in}
+use Rattle.place.specs.declared.Header.{Header}
+
+abbrev pub header_of : List ℕ → Header
+header_of w = record { root = root_at w; levels = levels_at w; count = count_at w }
 
 -- a root, levels and a count that leave room for one more
 pub record Topping (r l c : ℕ) : Type 0 where

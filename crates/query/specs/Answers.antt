@@ -1,15 +1,13 @@
 -- The outcome that an answer of a call is, with the buffers at exit.
-use Rattle.std.specs.Prelude.{[], ◌∷◌}
-use Rattle.kdb.specs.Calls.{Buffers, Outcome, gives, refuses}
+use Rattle.std.specs.Prelude.{[], ◌∷◌, Result}
+use Rattle.kdb.specs.declared.Refusal.{Refusal}
+use Rattle.kdb.specs.Calls.{Buffers, Outcome}
+use Rattle.opening.specs.Opens.{answer_as}
 use Rattle.query.specs.declared.Found.{Found}
-use Rattle.query.specs.declared.Found.TheVariants as finds
 use Rattle.query.specs.declared.Listed.{Listed}
-use Rattle.query.specs.declared.Listed.TheVariants as lists
 
-abbrev pub found_as : Found → Buffers → Outcome
-found_as (finds.At location reads) b = gives (location ∷ reads ∷ []) b
-found_as (finds.Refused r) b = refuses r b
+abbrev pub found_as : Result Found Refusal → Buffers → Outcome
+found_as = answer_as (λ f. f.location ∷ f.reads ∷ [])
 
-abbrev pub listed_as : Listed → Buffers → Outcome
-listed_as (lists.Counted total reads) b = gives (total ∷ reads ∷ []) b
-listed_as (lists.Refused r) b = refuses r b
+abbrev pub listed_as : Result Listed Refusal → Buffers → Outcome
+listed_as = answer_as (λ l. l.total ∷ l.reads ∷ [])

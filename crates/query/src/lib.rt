@@ -2,89 +2,74 @@
 
 // The public calls that leave the pool as it is: check, find and list. They have no requires: every input has an answer, and the promise
 // says which.
-ghost use Rattle.std.specs.Prelude.{◌≡◌, cond, ◌*◌, length};
-ghost use Rattle.kdb.specs.Walk.{list_walk};
-ghost use Rattle.kdb.specs.Calls.{L, check, find, list, alone, answering, window_of, listing, Promise};
-ghost use Rattle.words.specs.Words.{Fit};
+ghost use Rattle.std.specs.Prelude.{◌≡◌};
+ghost use Rattle.kdb.specs.Calls.{check, find, list, alone, answering, Promise};
 ghost use Rattle.opening.specs.Opens.{finished_as};
 ghost use Rattle.query.specs.Answers.{found_as, listed_as};
 
-use boxes::ordered_window;
-use kdb::{Form, Refusal};
-use opening::{Finished, open_pool, open_sound};
-use walk::{Sought, list_walk, search};
-use words::{clear, domains_of, form_of};
+use boxes::Sides;
+use kdb::Refusal;
+use opening::{open_pool, open_sound};
+use walk::{list_walk, search};
+use words::form_of;
 
-// At: location and pages read.
-#[derive(Clone, Copy)]
-pub enum Found {
-    At(usize, usize),
-    Refused(Refusal),
+// What find found: the record's location, and how many pages it read.
+#[derive(Clone, Copy, Debug, PartialEq, Eq)]
+pub struct Found {
+    pub location: u32,
+    pub reads: usize,
 }
 
-// Counted: total and pages read.
-#[derive(Clone, Copy)]
-pub enum Listed {
-    Counted(usize, usize),
-    Refused(Refusal),
+// What list counted: the records in the window, and the pages that it read.
+#[derive(Clone, Copy, Debug, PartialEq, Eq)]
+pub struct Listed {
+    pub total: usize,
+    pub reads: usize,
 }
 
 // Whether the pool is sound.
-pub fn check(pool: &[u32]) -> Finished
+#[tactic(auto, unfolding(kdb::specs::Calls::outcome))]
+pub fn check(pool: &[u32]) -> Result<(), Refusal>
     ensures { Promise pool.now check (finished_as result (alone pool.now)) }
 {
-    open_sound(pool, true, &pool[..0])
+    open_sound(pool, true, &[])?;
+    Ok(())
 }
 
 // The location of the record with the point's keys, and the pages read.
-pub fn find(pool: &[u32], point: &[u32]) -> Found
+#[tactic(auto, unfolding(kdb::specs::Calls::outcome))]
+pub fn find(pool: &[u32], point: &[u32]) -> Result<Found, Refusal>
     ensures { Promise pool.now (find point.now) (found_as result (alone pool.now)) }
 {
-    let f = form_of(pool);
-    match open_pool(pool, point.len() == f.domains, point) {
-        Finished::Refused(r) => return Found::Refused(r),
-        Finished::Done => {}
-    }
-    match search(pool, f, point) {
-        Sought::Here(_, _, location, reads) => Found::At(location, reads),
-        Sought::Absent(_, _) => Found::Refused(Refusal::Absent),
-        Sought::Bad(_) => Found::Refused(Refusal::Unsound),
-        Sought::NoRoot => Found::Refused(Refusal::Absent),
-    }
+    let fits = point.len() == form_of(pool).domains;
+    let pool = open_pool(pool, fits, point)?;
+    let hit = search(&pool, point)?;
+    Ok(Found {
+        location: hit.location,
+        reads: hit.reads,
+    })
 }
 
-// From which slot on the answer becomes 0: the first where the walk was stopped, none else.
-fn zeroed_from(stopped: bool, slots: usize) -> usize
-    ensures { result ≡ cond stopped 0 slots }
-{
-    if stopped { 0 } else { slots }
-}
-
-// List after the tests of its arguments: the walk, and every slot 0 where it met a bad page or the bound.
-fn list_within(pool: &[u32], f: Form, window: &[u32], answer: &mut [u32]) -> Listed
-    requires { Fit pool.now f × (length window.now ≡ 2 * f.domains) }
-    ensures { listed_as result (answering answer.new pool.now) ≡ listing (list_walk L pool.now (window_of f.domains window.now)) pool.now answer.old }
-{
-    let slots = answer.len();
-    let t = list_walk(pool, f, window, answer);
-    clear(answer, zeroed_from(t.bad, slots), slots);
-    if t.bad {
-        return Listed::Refused(Refusal::Unsound);
-    }
-    Listed::Counted(t.total, t.reads)
-}
-
-// The number of records in the window and the pages read; the answer takes the first locations in walk order.
-pub fn list(pool: &[u32], window: &[u32], answer: &mut [u32]) -> Listed
+// The number of records in the window and the pages read; the answer takes the first locations in walk order, or 0 in every slot where
+// the walk stopped at a bad page or at the bound.
+#[tactic(auto, using(crate::proofs::Laws::filling), unfolding(kdb::specs::Calls::outcome))]
+pub fn list(pool: &[u32], window: &[u32], answer: &mut [u32]) -> Result<Listed, Refusal>
     ensures { Promise pool.now (list window.now answer.old) (listed_as result (answering answer.new pool.now)) }
 {
-    let f = form_of(pool);
-    match open_pool(pool, window.len() == 2 * f.domains, window) {
-        Finished::Refused(r) => return Listed::Refused(r),
-        Finished::Done => {}
+    let fits = window.len() == 2 * form_of(pool).domains;
+    let pool = open_pool(pool, fits, window)?;
+    let window = Sides::window(window, pool.domains());
+    if !window.is_ordered() {
+        return Err(Refusal::WindowOrder);
     }
-    if !ordered_window(window, domains_of(f)) {
-        return Listed::Refused(Refusal::WindowOrder);
+    match list_walk(&pool, &window, answer) {
+        Ok(tally) => Ok(Listed {
+            total: tally.total,
+            reads: tally.reads,
+        }),
+        Err(stopped) => {
+            answer.fill(0);
+            Err(stopped.into())
+        }
     }
-    list_within(pool, f, window, answer)
 }

@@ -1,5 +1,5 @@
 -- What the code ensures of a frame's reply: its text, the pool in its buffer, and the work buffer.
-use Rattle.std.specs.Prelude.{List, ◌≡◌, ℕ, ◌+◌, ◌≤◌, ◌^◌, length, take}
+use Rattle.std.specs.Prelude.{List, ◌≡◌, ℕ, ◌+◌, ◌≤◌, length, take}
 use Rattle.std.proofs.lemmas.List.Edits.{sets}
 use Rattle.kdb.specs.Calls.{remove, find, list, outcome}
 use Rattle.kdb.specs.Frames.{Frame, new, call, unknown, slots, Reply}
@@ -20,13 +20,6 @@ abbrev pub work_after : List ℕ → List ℕ → Frame → List ℕ
 work_after w work (new k n) = work
 work_after w work (call c) = sets work 0 (outcome w (c (take (length w) work))).after.work
 work_after w work unknown = work
-
--- the buffers' sizes, and a place in the output from which an answer's 531 bytes can be counted
-pub record Sized (pool work : List ℕ) (words at : ℕ) : Type 0 where
-  pub pool_long : length pool ≡ 16384
-  pub work_long : length work ≡ 16384
-  pub within : words ≤ 16384
-  pub room : at + 531 ≤ 2 ^ 63
 
 -- a reply stands in the buffers: its pool at the front of the pool's buffer, its text from `at` on in the output, and nothing else is changed
 pub record Replied (r : Reply) (pool out : List ℕ) (at : ℕ) (pool' out' : List ℕ) (words at' : ℕ) : Type 0 where

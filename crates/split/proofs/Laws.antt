@@ -1,13 +1,18 @@
 -- Laws of one turn, of the ends and of each return of the splitting functions, over the machine forms.
-use mathlib.Core.Bool.{Bool, true, false, ◌&&◌, cond}
+use mathlib.Core.Bool.{true, false, ◌&&◌, cond}
 use mathlib.Core.List.{List}
-use mathlib.Core.Path.{◌≡◌, sym, ap, ◌∙◌}
+use mathlib.Core.Path.{◌≡◌, refl, sym, ap, ◌∙◌}
 use Prim.Native.Nat.{ℕ, suc, ◌+◌, ◌-◌, ◌*◌, ◌<◌, ◌≤◌}
 use native.Mathlib.Omega.{arith}
-use lib.Dec.{leb, ltb, eqb, ltb→lt, nltb→le, nleb→lt}
+use lib.Dec.{leb, ltb, leb→le, ltb→lt, nltb→le, nleb→lt}
+use native.Mathlib.Nat.{suc-mul}
+use native.Mathlib.Numerals.{add-one}
 use lib.ListN.{length, take, drop, get_or, replicate, get_or-eq_default}
-use lib.Seq.{sets}
-use borrow.Author.Tests.{lt-ltb, le-leb, lt-leb, eq-eqb, ne_eqb, ltb-true, ltb-false}
+use lib.Seq.{sets, get_or-take, get_or-drop}
+use Rattle.std.proofs.Common.{Option, Some, None, Result, Ok, Err}
+use Rattle.std.specs.Option.{SomeIff}
+use Rattle.std.specs.Result.{IsErr}
+use borrow.Author.Tests.{lt-ltb, le-leb, lt-leb, ne_eqb, ltb-true, ltb-false}
 use Rattle.kdb.specs.Steps.{after_forced}
 use Rattle.kdb.specs.Calls.{L}
 use Rattle.kdb.specs.Pages.{page}
@@ -19,64 +24,83 @@ use Rattle.steps.specs.Machine.{Passed, Claimed, fresh_in, append_in}
 use Rattle.steps.specs.Claim.{claim_in}
 use Rattle.steps.specs.Split.{points_in, entries_in, part_points, part_regions, split_in, reported}
 use Rattle.deal.specs.Part.{claimed, open_in, both_in}
-use Rattle.deal.proofs.Laws.{after_open}
-use Rattle.split.specs.Part.{passed}
+use Rattle.deal.specs.declared.Wanting.{Wanting}
+use Rattle.deal.proofs.Laws.{none_is, none_open, some_open}
+use Rattle.split.specs.Part.{passed, part_at}
 
 -- what follows where the right page was claimed
-module _ (n k d x : ℕ) (below : ℕ → List ℕ → Claimed) (m e j : ℕ) (src w v : List ℕ) (r : ℕ) (h : claimed r v ≡ open_in n 1 e j w) where
-  regions_open : cond (eqb r 0) (claimed r v) (reported L n k d x r (entries_in L k d x below m src 4 j r v)) ≡ part_regions L n k d x below src m e j w
+pub short_is : (q : Result (Unit {0}) Wanting) (w : List ℕ) → IsErr q → passed q w ≡ record { ok = false; words = w }
+short_is (Ok y) w h = absurd (let y : false ≡ true = h in cc)
+short_is (Err x) w h = refl
+
+module _ (n k d x : ℕ) (below : ℕ → List ℕ → Claimed) (m e j : ℕ) (src w v : List ℕ) where
+  pub regions_none : (q : Result ℕ Wanting) → IsErr q → record { page = 0; words = v } ≡ open_in n 1 e j w → claimed q v ≡ part_regions L n k d x below src m e j w
   unfolding open_in part_regions
-  regions_open = after_open (λ u. fresh_in L u j 1 e) (λ q u. reported L n k d x q (entries_in L k d x below m src 4 j q u)) (claim_in L n 1 e w) r v h
+  regions_none q i h = none_open (λ u. fresh_in L u j 1 e) (λ q u. reported L n k d x q (entries_in L k d x below m src 4 j q u)) (claim_in L n 1 e w) v q i h
 
-  pub regions_none : r ≡ 0 → claimed 0 v ≡ part_regions L n k d x below src m e j w
-  regions_none z = ap (λ i. claimed i v) (sym z) ∙ (rw (eq-eqb r 0 z) at regions_open)
+  module _ (r : ℕ) (u : List ℕ) (l : 1 ≤ r) (h : record { page = r; words = v } ≡ open_in n 1 e j w) where
+    regions_some : reported L n k d x r (entries_in L k d x below m src 4 j r v) ≡ part_regions L n k d x below src m e j w
+    unfolding open_in part_regions
+    regions_some = some_open (λ u. fresh_in L u j 1 e) (λ q u. reported L n k d x q (entries_in L k d x below m src 4 j q u)) (claim_in L n 1 e w) v r l h
 
-  module _ (z : r ≡ 0 → ⊥) (ok : Bool) (u : List ℕ) (g : passed ok u ≡ entries_in L k d x below m src 4 j r v) where
-    regions_some : reported L n k d x r (passed ok u) ≡ part_regions L n k d x below src m e j w
-    regions_some = ap (reported L n k d x r) g ∙ (rw (ne_eqb r 0 z) at regions_open)
+    pub regions_whole : record { ok = true; words = u } ≡ entries_in L k d x below m src 4 j r v → record { page = r; words = u } ≡ part_regions L n k d x below src m e j w
+    regions_whole g = ap (reported L n k d x r) g ∙ regions_some
 
-    pub regions_whole : ok ≡ true → claimed r u ≡ part_regions L n k d x below src m e j w
-    regions_whole t = rw t at regions_some
-
-    pub regions_short : ok ≡ false → claimed 0 u ≡ part_regions L n k d x below src m e j w
-    regions_short t = rw t at regions_some
+    pub regions_short : (q : Result ℕ Wanting) → IsErr q → record { ok = false; words = u } ≡ entries_in L k d x below m src 4 j r v → claimed q u ≡ part_regions L n k d x below src m e j w
+    regions_short q i g = none_is q u i ∙ ap (reported L n k d x r) g ∙ regions_some
 
 -- dealing out entries
-module _ (below : ℕ → List ℕ → Claimed) (k d x m i a j r : ℕ) (src w : List ℕ) (z : Passed) where
-  pub entries_end : entries_in L k d x below (m - i) src a j r w ≡ z → m ≤ i → passed true w ≡ z
+module _ (below : ℕ → List ℕ → Claimed) (k d x m i j r : ℕ) (src w : List ℕ) (z : Passed)
+    (e : entries_in L k d x below (m - i) src (4 + i * (2 * k + 1)) j r w ≡ z) where
+  pub entries_end : m ≤ i → record { ok = true; words = w } ≡ z
   unfolding entries_in
-  entries_end e h = let q : m - i ≡ 0 = omega arith in rw q at e
+  entries_end h = let q : m - i ≡ 0 = omega arith in rw q at e
 
-  module _ (e : entries_in L k d x below (m - i) src a j r w ≡ z) (h : i < m) where
-    turn : entries_in L k d x below (suc (m - (i + 1))) src a j r w ≡ z
-    turn = let q : m - i ≡ suc (m - (i + 1)) = omega arith in ap (λ n. entries_in L k d x below n src a j r w) (sym q) ∙ e
+  module _ (h : i < m) (g : d < k) (u : List ℕ) (y : u ≡ take (2 * k + 1) (drop (4 + i * (2 * k + 1)) src)) where
+    word_is : (p : ℕ) → p < 2 * k + 1 → get_or u p 0 ≡ get_or src (4 + i * (2 * k + 1) + p) 0
+    word_is p l = ap (λ l. get_or l p 0) y ∙ get_or-take (2 * k + 1) (drop (4 + i * (2 * k + 1)) src) p 0 l ∙ get_or-drop (4 + i * (2 * k + 1)) src p 0
 
-    pub entries_deal : ltb x (get_or src (a + k + d) 0) && ltb (get_or src (a + d) 0) x ≡ false
-        → entries_in L k d x below (m - (i + 1)) src (a + (2 * k + 1)) j r (append_in L (2 * k + 1) w (cond (leb (get_or src (a + k + d) 0) x) j r) (take (2 * k + 1) (drop a src))) ≡ z
+    lower : get_or u d 0 ≡ get_or src (4 + i * (2 * k + 1) + d) 0
+    lower = word_is d (omega arith)
+
+    upper : get_or u (k + d) 0 ≡ get_or src (4 + i * (2 * k + 1) + k + d) 0
+    upper = let q : 4 + i * (2 * k + 1) + (k + d) ≡ 4 + i * (2 * k + 1) + k + d = omega arith in word_is (k + d) (omega arith) ∙ ap (λ a. get_or src a 0) q
+
+    child : get_or u (2 * k) 0 ≡ get_or src (4 + i * (2 * k + 1) + 2 * k) 0
+    child = word_is (2 * k) (omega arith)
+
+    next : 4 + (i + 1) * (2 * k + 1) ≡ 4 + i * (2 * k + 1) + (2 * k + 1)
+    next = rw (add-one i) (omega (arith, suc-mul i (2 * k + 1)))
+
+    turn : entries_in L k d x below (suc (m - (i + 1))) src (4 + i * (2 * k + 1)) j r w ≡ z
+    turn = let q : m - i ≡ suc (m - (i + 1)) = omega arith in ap (λ n. entries_in L k d x below n src (4 + i * (2 * k + 1)) j r w) (sym q) ∙ e
+
+    pub entries_deal : (to : ℕ) → ltb x (get_or u (k + d) 0) && ltb (get_or u d 0) x ≡ false → to ≡ cond (leb (get_or u (k + d) 0) x) j r
+        → entries_in L k d x below (m - (i + 1)) src (4 + (i + 1) * (2 * k + 1)) j r (append_in L (2 * k + 1) w to u) ≡ z
     unfolding entries_in
-    entries_deal c =
-        bool (leb (get_or src (a + k + d) 0) x)
-        (λ t. let g = is_true (leb (get_or src (a + k + d) 0) x) t in rw g (rw g at turn))
-        (λ t. let g = is_false (leb (get_or src (a + k + d) 0) x) t in
-        let up : ltb x (get_or src (a + k + d) 0) ≡ true = lt-ltb x (get_or src (a + k + d) 0) (nleb→lt (get_or src (a + k + d) 0) x t) in
-        let lo : leb x (get_or src (a + d) 0) ≡ true = le-leb x (get_or src (a + d) 0) (ltb-false (get_or src (a + d) 0) x (rw up at c)) in
-        rw g (rw (g, lo) at turn))
+    entries_deal to c t =
+        bool (leb (get_or u (k + d) 0) x)
+        (λ b. let g = is_true (leb (get_or u (k + d) 0) x) b in rw (next, t, g, y) (rw (← upper, g) at turn))
+        (λ b. let g = is_false (leb (get_or u (k + d) 0) x) b in
+        let up : ltb x (get_or u (k + d) 0) ≡ true = lt-ltb x (get_or u (k + d) 0) (nleb→lt (get_or u (k + d) 0) x b) in
+        let lo : leb x (get_or u d 0) ≡ true = le-leb x (get_or u d 0) (ltb-false (get_or u d 0) x (rw up at c)) in
+        rw (next, t, g, y) (rw (← upper, g, ← lower, lo) at turn))
 
-    module _ (c : ltb x (get_or src (a + k + d) 0) && ltb (get_or src (a + d) 0) x ≡ true) where
-      up : leb (get_or src (a + k + d) 0) x ≡ false
-      up = lt-leb (get_or src (a + k + d) 0) x (ltb-true x (get_or src (a + k + d) 0) (and_t (ltb x (get_or src (a + k + d) 0)) (ltb (get_or src (a + d) 0) x) c).0)
+    module _ (c : ltb x (get_or u (k + d) 0) && ltb (get_or u d 0) x ≡ true) (v : List ℕ) where
+      up : leb (get_or src (4 + i * (2 * k + 1) + k + d) 0) x ≡ false
+      up = rw (← upper) (lt-leb (get_or u (k + d) 0) x (ltb-true x (get_or u (k + d) 0) (and_t (ltb x (get_or u (k + d) 0)) (ltb (get_or u d 0) x) c).0))
 
-      lo : leb x (get_or src (a + d) 0) ≡ false
-      lo = lt-leb x (get_or src (a + d) 0) (ltb-true (get_or src (a + d) 0) x (and_t (ltb x (get_or src (a + k + d) 0)) (ltb (get_or src (a + d) 0) x) c).1)
+      lo : leb x (get_or src (4 + i * (2 * k + 1) + d) 0) ≡ false
+      lo = rw (← lower) (lt-leb x (get_or u d 0) (ltb-true (get_or u d 0) x (and_t (ltb x (get_or u (k + d) 0)) (ltb (get_or u d 0) x) c).1))
 
-      module _ (q : ℕ) (v : List ℕ) (g : claimed q v ≡ below (get_or src (a + 2 * k) 0) w) where
-        pub entries_short : q ≡ 0 → passed false v ≡ z
-        unfolding entries_in
-        entries_short y = rw (up, lo, ← g, eq-eqb q 0 y) at turn
+      pub entries_short : (q : Result (Unit {0}) Wanting) → IsErr q → record { page = 0; words = v } ≡ below (get_or u (2 * k) 0) w → passed q v ≡ z
+      unfolding entries_in
+      entries_short q s g = short_is q v s ∙ (rw (up, lo, ← child, ← g) at turn)
 
-        pub entries_both : (q ≡ 0 → ⊥) → entries_in L k d x below (m - (i + 1)) src (a + (2 * k + 1)) j r (both_in k d x src a j r q v) ≡ z
-        unfolding entries_in both_in
-        entries_both y = rw (up, lo, ← g, ne_eqb q 0 y) at turn
+      pub entries_both : (q : ℕ) → claimed (Ok q) v ≡ below (get_or u (2 * k) 0) w → 1 ≤ q
+          → entries_in L k d x below (m - (i + 1)) src (4 + (i + 1) * (2 * k + 1)) j r (both_in k d x u j r q v) ≡ z
+      unfolding entries_in both_in
+      entries_both q g s = rw (next, y) (rw (up, lo, ← child, ← g, ne_eqb q 0 (λ b. omega arith)) at turn)
 
 -- the copy of a page that a forced split deals out is the page, or nothing is dealt out
 abbrev pub copied : List ℕ → ℕ → List ℕ
@@ -94,7 +118,7 @@ module _ (n : ℕ) (w : List ℕ) (j : ℕ) (h : length w ≡ 32 * n) where
     unfolding part_points points_in
     no_points e s y = rw y
 
-    pub split_points : (level : ℕ) → level ≡ 0 → part_points L n k d x (copied w j) (word L w j 1) (after_forced k (word L w j 2)) j w ≡ split_in L n k d x level j w
+    split_points : (level : ℕ) → level ≡ 0 → part_points L n k d x (copied w j) (word L w j 1) (after_forced k (word L w j 2)) j w ≡ split_in L n k d x level j w
     unfolding split_in
     split_points level z = let e = after_forced k (word L w j 2) in rw z (copied_page (λ s. part_points L n k d x s (word L w j 1) e j w) (no_points e))
 
@@ -103,8 +127,13 @@ module _ (n : ℕ) (w : List ℕ) (j : ℕ) (h : length w ≡ 32 * n) where
     unfolding part_regions entries_in
     no_entries below e s y = rw y
 
-    pub split_regions : (level l : ℕ) → level ≡ suc l → part_regions L n k d x (split_in L n k d x l) (copied w j) (word L w j 1) (after_forced k (word L w j 2)) j w ≡ split_in L n k d x level j w
+    split_regions : (level l : ℕ) → level ≡ suc l → part_regions L n k d x (split_in L n k d x l) (copied w j) (word L w j 1) (after_forced k (word L w j 2)) j w ≡ split_in L n k d x level j w
     unfolding split_in
     split_regions level l z =
         let e = after_forced k (word L w j 2) in
         rw z (copied_page (λ s. part_regions L n k d x (split_in L n k d x l) s (word L w j 1) e j w) (no_entries (split_in L n k d x l) e))
+
+    pub split_at : (o : Option ℕ) (level : ℕ) → SomeIff o (1 ≤ level) (level - 1)
+        → part_at n k d x o (copied w j) (word L w j 1) (after_forced k (word L w j 2)) j w ≡ split_in L n k d x level j w
+    split_at None level h = split_points level (bool (leb 1 level) (λ t. absurd (h (leb→le 1 level t))) (λ t. omega (arith, nleb→lt 1 level t)))
+    split_at (Some l) level h = let g = h.0 in let e = h.1 in split_regions level l (omega arith)

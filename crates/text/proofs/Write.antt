@@ -1,16 +1,18 @@
 -- Laws of a turn and of the end for the loops that write an answer's text.
 use mathlib.Core.List.{List, [], ◌∷◌, ◌++◌, append-nil}
 use mathlib.Core.Path.{◌≡◌, refl, sym, ap, ap₂, ◌∙◌}
-use Prim.Native.Nat.{ℕ, zero, suc, ◌+◌, ◌-◌, ◌*◌, ◌/◌, ◌%◌, ◌<◌, ◌≤◌}
+use Prim.Native.Nat.{ℕ, zero, suc, ◌+◌, ◌-◌, ◌/◌, ◌%◌, ◌<◌, ◌≤◌}
 use native.Mathlib.Omega.{arith}
 use native.Mathlib.Numerals.{add-one}
 use lib.ListN.{length, get_or, take, set, length-append, length-set}
-use lib.Seq.{sets, take-suc, take_all, length-sets}
+use lib.Seq.{sets, take-suc, length-sets}
 use Rattle.kdb.specs.Lists.{gather}
 use Rattle.kdb.specs.Frames.{digit_of, hex}
 use Rattle.kdb.proofs.Lists.{gather_append}
 use Rattle.kdb.proofs.Stores.{sets_append, set_past}
 use Rattle.text.specs.Text.{Written}
+use Rattle.text.specs.Puts.{Puts}
+use Rattle.text.specs.declared.Sink.{Sink}
 
 pub length_hex : (n v : ℕ) → length (hex n v) ≡ n
 length_hex zero v = refl
@@ -61,28 +63,13 @@ hexed_end {old} {out} {at} {n} {v} {left} {rest} h k =
     let g : Hexed old at n v out 0 rest = rw q at h in
     record { stands = g.so; follows = omega (arith, length_hex n v) }
 
--- the texts of the first i words are written, each as g gives it, in 8 characters
-pub record Worded (g : ℕ → List ℕ) (old : List ℕ) (at : ℕ) (words out : List ℕ) (i next : ℕ) : Type 0 where
-  pub so : Written old at (gather g (take i words)) out next
-  pub place : next ≡ at + 8 * i
-  pub within : i ≤ length words
+-- the texts of one word more
+pub words_more : (g : ℕ → List ℕ) (words : List ℕ) (i : ℕ) → i < length words → gather g (take (i + 1) words) ≡ gather g (take i words) ++ g (get_or words i 0)
+words_more g words i k = rw add-one (ap (gather g) (take-suc words i 0 k) ∙ gather_append g (take i words) (get_or words i 0 ∷ []) ∙ ap (λ t. gather g (take i words) ++ t) (append-nil (g (get_or words i 0))))
 
-module _ (g : ℕ → List ℕ) where
-  pub worded_none : (old words : List ℕ) (at : ℕ) → Worded g old at words old 0 at
-  worded_none old words at = record { so = written_none old at; place = omega arith; within = omega arith }
+-- the same by a sink
+pub puts_none : (a : Sink) → Puts a [] a
+puts_none a = record { written = written_none a.out.now a.at; same = refl }
 
-  pub worded_next : {old words out new : List ℕ} {at i next after : ℕ} → ((x : ℕ) → length (g x) ≡ 8) → Worded g old at words out i next → i < length words → Written out next (g (get_or words i 0)) new after
-      → Worded g old at words new (i + 1) after
-  worded_next {old} {words} {out} {new} {at} {i} {next} {after} l h k w =
-      let x = get_or words i 0 in
-      let more : gather g (take (i + 1) words) ≡ gather g (take i words) ++ (g x ++ []) =
-      rw add-one (ap (gather g) (take-suc words i 0 k) ∙ gather_append g (take i words) (x ∷ [])) in
-      let both : Written old at (gather g (take (i + 1) words)) new after = rw (more, append-nil) (written_then h.so w) in
-      record { so = both; place = omega (arith, w.follows, l x); within = omega arith }
-
-  pub worded_end : {old words out : List ℕ} {at i next : ℕ} → Worded g old at words out i next → length words ≤ i → Written old at (gather g words) out next
-  worded_end {old} {words} {out} {at} {i} {next} h k = rw (take_all i words k) at h.so
-
--- a line feed
-pub written_feed : (a : List ℕ) (i : ℕ) → Written a i (10 ∷ []) (set a i 10) (i + 1)
-written_feed a i = record { stands = refl; follows = refl }
+pub puts_then : {a b c : Sink} {t u : List ℕ} → Puts a t b → Puts b u c → Puts a (t ++ u) c
+puts_then p q = record { written = written_then p.written q.written; same = q.same ∙ p.same }

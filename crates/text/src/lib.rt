@@ -1,82 +1,62 @@
 #![tactic(auto)]
 
 // Digits, bytes and words of a frame's text: reading a line, and writing an answer.
-ghost use Rattle.std.specs.Prelude.{◌≡◌, cond, [], ◌+◌, ◌*◌, ◌≤◌, ◌<◌, ◌^◌, length, get_or, set};
+ghost use Rattle.std.specs.Prelude.{◌≡◌, ◌∷◌, [], ◌+◌, ◌*◌, ◌≤◌, ◌<◌, ◌^◌, length, get_or, set, IfSome};
 ghost use Rattle.kdb.specs.Lists.{gather};
 ghost use Rattle.kdb.specs.Frames.{digit, bytes_of, words_of, digit_of, hex};
-ghost use Rattle.text.specs.Text.{below, counted, pair_of, word_at, Written};
+ghost use Rattle.text.specs.Text.{read, shown, pair_of};
+ghost use Rattle.text.specs.Puts.{Puts};
 
-// The value of a hexadecimal digit, upper or lower case; 16 for another character.
-fn digit_value(b: u8) -> u8
-    ensures { below 16 result ≡ digit b }
+// The value of a hexadecimal digit, upper or lower case.
+fn digit_value(b: u8) -> Option<u8>
+    ensures value { read result ≡ digit b }
+    ensures small { IfSome result (λ v. v < 16) }
 {
     match b {
-        48..=57 => b - 48,
-        65..=70 => b - 55,
-        97..=102 => b - 87,
-        _ => 16,
+        b'0'..=b'9' => Some(b - b'0'),
+        b'A'..=b'F' => Some(b - b'A' + 10),
+        b'a'..=b'f' => Some(b - b'a' + 10),
+        _ => None,
     }
 }
 
-// The byte of two digits; 256 where one is another character.
-fn pair_value(a: u8, b: u8) -> usize
-    ensures { below 256 result ≡ pair_of a b }
+// The byte of two digits.
+fn pair_value(high: u8, low: u8) -> Option<u8>
+    ensures { read result ≡ pair_of high low }
 {
-    let h = digit_value(a) as usize;
-    let l = digit_value(b) as usize;
-    if (h < 16) & (l < 16) { 16 * h + l } else { 256 }
+    Some(16 * digit_value(high)? + digit_value(low)?)
 }
 
-// The bytes of a line of digits, and how many; 65 for an odd number of digits or another character.
-pub fn decode(line: &[u8], bytes: &mut [u8]) -> usize
+// The bytes of a line of digits; none for an odd number of digits or another character.
+pub fn decode<'a>(line: &[u8], bytes: &'a mut [u8]) -> Option<&'a [u8]>
     requires { (length line.now ≤ 128) × (length bytes.old ≡ 64) }
-    ensures { (counted 64 result bytes.new ≡ bytes_of line.now) × (result ≤ 65) }
+    ensures bytes { shown result ≡ bytes_of line.now }
+    ensures few { IfSome result (λ s. length s.now ≤ 64) }
 {
-    let mut n: usize = 0;
-    while 2 * n + 1 < line.len() {
-        let b = pair_value(line[2 * n], line[2 * n + 1]);
-        if 255 < b {
-            return 65;
-        }
-        bytes[n] = b as u8;
-        n += 1;
+    let (pairs, odd) = line.as_chunks::<2>();
+    if !odd.is_empty() {
+        return None;
     }
-    if 2 * n < line.len() { 65 } else { n }
-}
-
-// The byte at `at`, and 0 past the end.
-pub fn byte_at(bytes: &[u8], at: usize) -> u32
-    ensures { (result ≡ get_or bytes.now at 0) × (result < 256) }
-{
-    if at < bytes.len() {
-        bytes[at] as u32
-    } else {
-        0
+    for (n, [high, low]) in pairs.iter().enumerate() {
+        bytes[n] = pair_value(*high, *low)?;
     }
+    Some(&bytes[..pairs.len()])
 }
 
-// The word of 4 bytes, high byte first.
-fn word_value(bytes: &[u8], at: usize) -> u32
-    requires { at < 2 ^ 60 }
-    ensures { result ≡ word_at bytes.now at }
-{
-    16777216 * byte_at(bytes, at)
-        + 65536 * byte_at(bytes, at + 1)
-        + 256 * byte_at(bytes, at + 2)
-        + byte_at(bytes, at + 3)
-}
-
-// The words of the bytes, and how many; 17 for a part word.
-pub fn words_of(bytes: &[u8], words: &mut [u32]) -> usize
+// The words of the bytes, 4 each, high byte first; none for a part word.
+pub fn words_of<'a>(bytes: &[u8], words: &'a mut [u32]) -> Option<&'a [u32]>
     requires { (length bytes.now ≤ 63) × (length words.old ≡ 16) }
-    ensures { (counted 16 result words.new ≡ words_of bytes.now) × (result ≤ 17) }
+    ensures words { shown result ≡ words_of bytes.now }
+    ensures few { IfSome result (λ s. length s.now ≤ 16) }
 {
-    let mut n: usize = 0;
-    while 4 * n + 3 < bytes.len() {
-        words[n] = word_value(bytes, 4 * n);
-        n += 1;
+    let (fours, part) = bytes.as_chunks::<4>();
+    if !part.is_empty() {
+        return None;
     }
-    if 4 * n < bytes.len() { 17 } else { n }
+    for (n, four) in fours.iter().enumerate() {
+        words[n] = u32::from_be_bytes(*four);
+    }
+    Some(&words[..fours.len()])
 }
 
 // A digit of an answer, upper case.
@@ -87,49 +67,54 @@ fn digit_of(v: usize) -> u8
     if v < 10 { v as u8 + 48 } else { v as u8 + 55 }
 }
 
-// Sets the byte at `at`, if there is one.
-pub fn put(out: &mut [u8], at: usize, b: u8)
-    ensures { out.new ≡ set out.old at b }
-{
-    if at < out.len() {
-        out[at] = b;
-    }
+// Where an answer is written: a buffer, and the place of the next byte. Past the buffer's end the place moves on, and nothing is written.
+#[derive(Drop)]
+pub struct Sink<'a> {
+    pub out: &'a mut [u8],
+    pub at: usize,
 }
 
-// A number of n digits.
-pub fn put_hex(out: &mut [u8], at: usize, n: usize, v: usize) -> usize
-    requires { (at < 2 ^ 63) × (n ≤ 8) }
-    ensures { Written out.old at (hex n v) out.new result }
-{
-    let mut left = n;
-    let mut rest = v;
-    while 0 < left {
-        left -= 1;
-        put(out, at + left, digit_of(rest % 16));
-        rest = rest / 16;
+impl Sink<'_> {
+    // Sets the byte at `at`, if there is one.
+    fn set(&mut self, at: usize, b: u8)
+        ensures kept { (self.new.at ≡ self.old.at) × (self.new.out.ghost_name ≡ self.old.out.ghost_name) }
+        ensures set { self.new.out.now ≡ set self.old.out.now at b }
+    {
+        if at < self.out.len() {
+            self.out[at] = b;
+        }
     }
-    at + n
-}
 
-// Each word as 8 digits.
-pub fn put_words(out: &mut [u8], at: usize, words: &[u32]) -> usize
-    requires { (at + 512 ≤ 2 ^ 63) × (length words.now ≤ 64) }
-    ensures { Written out.old at (gather (hex 8) words.now) out.new result
-        × (result ≡ at + 8 * length words.now) }
-{
-    let mut i: usize = 0;
-    let mut next = at;
-    while i < words.len() {
-        next = put_hex(out, next, 8, words[i] as usize);
-        i += 1;
+    // One byte.
+    pub fn put(&mut self, b: u8)
+        requires { self.old.at < 2 ^ 63 }
+        ensures { Puts self.old (b ∷ []) self.new }
+    {
+        self.set(self.at, b);
+        self.at += 1;
     }
-    next
-}
 
-// A value of 8 digits, if it is there.
-pub fn put_value(out: &mut [u8], at: usize, there: bool, v: usize) -> usize
-    requires { at < 2 ^ 63 }
-    ensures { Written out.old at (cond there (hex 8 v) []) out.new result × (result ≤ at + 8) }
-{
-    if there { put_hex(out, at, 8, v) } else { at }
+    // A number of n digits.
+    pub fn put_hex(&mut self, n: usize, v: usize)
+        requires { (self.old.at < 2 ^ 63) × (n ≤ 8) }
+        ensures { Puts self.old (hex n v) self.new }
+    {
+        let mut rest = v;
+        for i in (0..n).rev() {
+            self.set(self.at + i, digit_of(rest % 16));
+            rest /= 16;
+        }
+        self.at += n;
+    }
+
+    // Each word as 8 digits.
+    pub fn put_words(&mut self, words: &[u32])
+        requires { (self.old.at + 512 ≤ 2 ^ 63) × (length words.now ≤ 64) }
+        ensures text { Puts self.old (gather (hex 8) words.now) self.new }
+        ensures long { self.new.at ≡ self.old.at + 8 * length words.now }
+    {
+        for word in words {
+            self.put_hex(8, *word as usize);
+        }
+    }
 }

@@ -2,55 +2,55 @@
 use mathlib.Core.Bool.{Bool, true, false, ◌&&◌, cond}
 use mathlib.Core.List.{List, [], ◌∷◌}
 use mathlib.Core.Path.{◌≡◌, refl, sym, ap, ◌∙◌}
-use Prim.Native.Nat.{ℕ, zero, suc, ◌+◌, ◌-◌, ◌*◌, ◌<◌, ◌≤◌}
+use Prim.Native.Nat.{ℕ, zero, suc, ◌+◌, ◌*◌, ◌<◌}
 use native.Mathlib.Omega.{arith}
 use native.Mathlib.Numerals.{add-one}
-use lib.Dec.{leb, ltb}
-use lib.ListN.{length, drop, get_or}
-use borrow.Author.Tests.{ne_eqb}
+use lib.Dec.{eqb}
+use lib.ListN.{length, get_or}
+use Rattle.std.specs.Cmp.Lexicographic.{pointwise}
+use Rattle.std.specs.Prelude.{Result, Ok, Err}
 use Rattle.kdb.specs.Lists.{same}
 use Rattle.kdb.specs.Box.{Key, within}
-use Rattle.kdb.specs.declared.Form.{Form}
-use Rattle.kdb.specs.Pages.{Ent, read_ents}
-use Rattle.kdb.specs.Pool.{levels_at, root_at}
-use Rattle.kdb.specs.Walk.{ends, bad, spots, spot_of, into, seek, find_walk}
+use Rattle.kdb.specs.Pages.{Ent}
+use Rattle.kdb.specs.Pool.{domains, is_page}
+use Rattle.kdb.specs.Walk.{End, here, ends, bad, spots, spot_of, into, seek}
 use Rattle.kdb.specs.Calls.{L}
-use Rattle.kdb.proofs.Words.{ent_turn}
-use Rattle.words.specs.Words.{word_at, point_location, keys_of, region_at, records_from, Fit}
-use Rattle.words.proofs.Slots.{records_turn, records_end}
-use Rattle.walk.specs.declared.Sought.{Sought}
-use Rattle.walk.specs.declared.Sought.TheVariants.{Here, Absent, Bad, NoRoot}
-use Rattle.walk.specs.Pages.{region_words, point_words}
+use Rattle.words.specs.declared.Kind.TheVariants.{Region, Point}
+use Rattle.words.specs.Words.{word_at, point_location, keys_of, region_at, records_from}
+use Rattle.words.proofs.Slots.{records_turn}
+use Rattle.walk.specs.declared.Hit.{Hit}
+use Rattle.walk.specs.declared.Missed.{Missed}
+use Rattle.walk.specs.declared.Missed.TheVariants.{Bad}
+use Rattle.walk.specs.declared.Stopped.{Stopped}
+use Rattle.walk.specs.Pages.{region_words, point_words, entry_place, entries_from, reached}
 use Rattle.walk.specs.Seek.{child_of, ended, sought_as}
-use Rattle.walk.proofs.Pages.{is_page_lem, regions_good, points_good, region_page_lem, point_page_lem}
+use Rattle.walk.proofs.Pages.{regions_good, points_good, entries_seen, records_seen, entries_turn}
 
--- the entries from word a on
-module _ (k c e : ℕ) (w p : List ℕ) (a x : ℕ) where
-  pub child_end : child_of p (read_ents k (c - e) (drop a w)) ≡ x → c ≤ e → 0 ≡ x
-  child_end v h = let q : c - e ≡ 0 = omega arith in rw q at v
+-- the equality of slices is the definition's
+pub same_keys : (p q : List ℕ) → pointwise eqb p q ≡ same p q
+same_keys [] [] = refl
+same_keys [] (b ∷ q) = refl
+same_keys (a ∷ p) [] = refl
+same_keys (a ∷ p) (b ∷ q) = ap (λ r. eqb a b && r) (same_keys p q)
 
-  pub child_here : child_of p (read_ents k (c - e) (drop a w)) ≡ x → e < c → within (region_at k w a) p ≡ true → get_or w (a + 2 * k) 0 ≡ x
-  child_here v h t = rw t at (rw (ent_turn k c e w a h) at v)
+-- the entries from entry e on
+module _ (k : ℕ) (w p : List ℕ) (j c e x : ℕ) (v : child_of p (entries_from k w j c e) ≡ x) where
+  pub child_here : e < c → within (region_at k w (entry_place k j e)) p ≡ true → get_or w (entry_place k j e + 2 * k) 0 ≡ x
+  child_here h t = rw t at (rw (entries_turn k w j c e h) at v)
 
-  pub child_next : child_of p (read_ents k (c - e) (drop a w)) ≡ x → e < c → within (region_at k w a) p ≡ false
-      → child_of p (read_ents k (c - (e + 1)) (drop (a + (2 * k + 1)) w)) ≡ x
-  child_next v h t = rw t at (rw (ent_turn k c e w a h) at v)
+  pub child_next : e < c → within (region_at k w (entry_place k j e)) p ≡ false → child_of p (entries_from k w j c (e + 1)) ≡ x
+  child_next h t = rw t at (rw (entries_turn k w j c e h) at v)
 
 -- the records from slot e on
-module _ (k c e : ℕ) (w p : List ℕ) (j r : ℕ) (x : Sought) where
-  pub record_end : ended r (spot_of j p (spots j e (records_from k w j c e))) ≡ x → c ≤ e → Absent j r ≡ x
-  record_end v h = rw (records_end k w j c e h) at v
+module _ (k : ℕ) (w p : List ℕ) (j c e : ℕ) (x : End) (v : spot_of j p (spots j e (records_from k w j c e)) ≡ x) where
+  pub record_here : e < c → same p (keys_of k w j e) ≡ true → here (record { page = j; slot = e; rec = record { key = keys_of k w j e; loc = point_location w k j e } }) ≡ x
+  record_here h t = rw t at (rw (records_turn k w j c e h) at v)
 
-  pub record_here : ended r (spot_of j p (spots j e (records_from k w j c e))) ≡ x → e < c → same p (keys_of k w j e) ≡ true
-      → Here j e (point_location w k j e) r ≡ x
-  record_here v h t = rw t at (rw (records_turn k w j c e h) at v)
-
-  pub record_next : ended r (spot_of j p (spots j e (records_from k w j c e))) ≡ x → e < c → same p (keys_of k w j e) ≡ false
-      → ended r (spot_of j p (spots j (e + 1) (records_from k w j c (e + 1)))) ≡ x
-  record_next v h t = rw t at (rw (records_turn k w j c e h, ← add-one e) at v)
+  pub record_next : e < c → same p (keys_of k w j e) ≡ false → spot_of j p (spots j (e + 1) (records_from k w j c (e + 1))) ≡ x
+  record_next h t = rw t at (rw (records_turn k w j c e h, ← add-one e) at v)
 
 -- page 0 is no page, so a page with no entry for the point is as one whose entry names page 0
-seek_zero : (w : List ℕ) (p : Key) (l : ℕ) → seek L w p l 0 ≡ ends [] bad
+pub seek_zero : (w : List ℕ) (p : Key) (l : ℕ) → seek L w p l 0 ≡ ends [] bad
 seek_zero w p zero = refl
 seek_zero w p (suc l) = refl
 
@@ -63,42 +63,52 @@ into_child w p l (e ∷ es) = go (within e.box p) (into_child w p l es)
     go true i = refl
     go false i = i
 
--- one level
-module _ (w : List ℕ) (f : Form) (g : Fit w f) (p : Key) (j r : ℕ) where
-  pub last_out : leb 1 j && ltb j f.pages ≡ false → Bad r ≡ sought_as r (seek L w p 0 j)
-  last_out h = rw (is_page_lem w f j g ∙ h) (ap Bad (omega arith))
+-- one level, at page j, after r pages: what the walk makes of the page read
+abbrev goes : Result ℕ Stopped → (ℕ → Result Hit Missed) → Result Hit Missed
+goes (Ok n) h = h n
+goes (Err e) h = Err (Bad e.reads)
 
-  pub last_bad : leb 1 j && ltb j f.pages ≡ true → point_words w f.domains j ≡ false → Bad (r + 1) ≡ sought_as r (seek L w p 0 j)
-  last_bad h t = rw (points_good w f j g h ∙ t, is_page_lem w f j g ∙ h)
+module _ (w : List ℕ) (p : Key) (j r : ℕ) where
+  abbrev found : ℕ → Result Hit Missed
+  found n = ended n (spot_of j p (spots j 0 (records_from (domains w) w j (word_at w j 1) 0)))
 
-  pub last_good : leb 1 j && ltb j f.pages ≡ true → point_words w f.domains j ≡ true
-      → ended (r + 1) (spot_of j p (spots j 0 (records_from f.domains w j (word_at w j 1) 0))) ≡ sought_as r (seek L w p 0 j)
-  last_good h t = rw (points_good w f j g h ∙ t, (point_page_lem w f j g h t).1, is_page_lem w f j g ∙ h)
+  last : goes (reached w Point j r) found ≡ sought_as r (seek L w p 0 j)
+  last = go (is_page L w j) refl (point_words w (domains w) j) refl
+    where
+      go : (is : Bool) → is_page L w j ≡ is → (ok : Bool) → point_words w (domains w) j ≡ ok → goes (reached w Point j r) found ≡ sought_as r (seek L w p 0 j)
+      go false h ok t = rw h (let z : r ≡ r + 0 = omega arith in ap (λ (n : ℕ). ended n bad) z)
+      go true h true t = rw (points_good w j h ∙ t, records_seen w j h t, t, h)
+      go true h false t = rw (points_good w j h ∙ t, t, h)
 
-  -- l levels from page j on, the point pages' level among them
-  module _ (l : ℕ) (x : Sought) (v : sought_as r (seek L w p (l - 1) j) ≡ x) (m : 1 < l) where
-    above : sought_as r (seek L w p (suc (l - 1 - 1)) j) ≡ x
-    above = let q : l - 1 ≡ suc (l - 1 - 1) = omega arith in rw q at v
+  module _ (l : ℕ) where
+    abbrev entered : ℕ → Result Hit Missed
+    entered n = sought_as n (seek L w p l (child_of p (entries_from (domains w) w j (word_at w j 1) 0)))
 
-    pub down_out : leb 1 j && ltb j f.pages ≡ false → Bad r ≡ x
-    down_out h = ap Bad (let z : r ≡ r + 0 = omega arith in z) ∙ rw (is_page_lem w f j g ∙ h) at above
+    level : goes (reached w Region j r) entered ≡ sought_as r (seek L w p (suc l) j)
+    level = go (is_page L w j) refl (region_words w (domains w) j) refl
+      where
+        go : (is : Bool) → is_page L w j ≡ is → (ok : Bool) → region_words w (domains w) j ≡ ok → goes (reached w Region j r) entered ≡ sought_as r (seek L w p (suc l) j)
+        go false h ok t = rw h (let z : r ≡ r + 0 = omega arith in ap (λ (n : ℕ). ended n bad) z)
+        go true h true t =
+            let s = seek L w p l (child_of p (entries_from (domains w) w j (word_at w j 1) 0)) in
+            let z : r + 1 + length s.read ≡ r + suc (length s.read) = omega arith in
+            rw (regions_good w j h ∙ t, entries_seen w j h t, t, h, into_child w p l (entries_from (domains w) w j (word_at w j 1) 0)) (ap (λ (i : ℕ). ended i s.end) z)
+        go true h false t = rw (regions_good w j h ∙ t, t, h)
 
-    pub down_bad : leb 1 j && ltb j f.pages ≡ true → region_words w f.domains j ≡ false → Bad (r + 1) ≡ x
-    down_bad h t = rw (regions_good w f j g h ∙ t, is_page_lem w f j g ∙ h) at above
+    pub level_bad : (e : Stopped) → Err e ≡ reached w Region j r → Err (Bad e.reads) ≡ sought_as r (seek L w p (suc l) j)
+    level_bad e q = rw (← q) at level
 
-    pub down_next : leb 1 j && ltb j f.pages ≡ true → region_words w f.domains j ≡ true
-        → sought_as (r + 1) (seek L w p (l - 1 - 1) (child_of p (read_ents f.domains (word_at w j 1) (drop (L * j + 4) w)))) ≡ x
-    down_next h t =
-        let es = read_ents f.domains (word_at w j 1) (drop (L * j + 4) w) in
-        let s = seek L w p (l - 1 - 1) (child_of p es) in
-        let z : r + 1 + length s.read ≡ r + suc (length s.read) = omega arith in
-        ap (λ (i : ℕ). ended i s.end) z
-        ∙ rw (regions_good w f j g h ∙ t, (region_page_lem w f j g h t).1, is_page_lem w f j g ∙ h, into_child w p (l - 1 - 1) es) at above
+    -- the child is the page to go on from; where there is none the page is bad
+    pub level_next : (n i : ℕ) → Ok n ≡ reached w Region j r → i ≡ child_of p (entries_from (domains w) w j (word_at w j 1) 0) → sought_as n (seek L w p l i) ≡ sought_as r (seek L w p (suc l) j)
+    level_next n i q h = ap (λ (m : ℕ). sought_as n (seek L w p l m)) h ∙ (rw (← q) at level)
 
--- the whole search
-module _ (w : List ℕ) (p : Key) where
-  pub search_none : levels_at w ≡ 0 → NoRoot ≡ sought_as 0 (find_walk L w p)
-  search_none z = rw z
+    pub level_lost : (n : ℕ) → Ok n ≡ reached w Region j r → 0 ≡ child_of p (entries_from (domains w) w j (word_at w j 1) 0) → Err (Bad n) ≡ sought_as r (seek L w p (suc l) j)
+    level_lost n q h =
+        let z : n ≡ n + 0 = omega arith in
+        ap (λ (m : ℕ). ended m bad) z ∙ ap (sought_as n) (sym (seek_zero w p l)) ∙ level_next n 0 q h
 
-  pub search_some : (levels_at w ≡ 0 → ⊥) → sought_as 0 (seek L w p (levels_at w - 1) (root_at w)) ≡ sought_as 0 (find_walk L w p)
-  search_some z = rw (ne_eqb (levels_at w) 0 z)
+  pub last_bad : (e : Stopped) → Err e ≡ reached w Point j r → Err (Bad e.reads) ≡ sought_as r (seek L w p 0 j)
+  last_bad e q = rw (← q) at last
+
+  pub last_good : (n : ℕ) → Ok n ≡ reached w Point j r → found n ≡ sought_as r (seek L w p 0 j)
+  last_good n q = rw (← q) at last

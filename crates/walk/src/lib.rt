@@ -1,345 +1,336 @@
 #![tactic(auto)]
 
 // The walks over a pool's pages: the one search for a point, and list's walk of a window.
-ghost use Rattle.std.specs.Prelude.{◌≡◌, true, false, ◌&&◌, cond, ◌+◌, ◌*◌, ◌-◌, ◌≤◌, ◌<◌, ◌^◌, leb, ltb, length, take, drop, set};
-ghost use Rattle.kdb.specs.Lists.{bit};
+ghost use Rattle.std.specs.Prelude.{◌≡◌, cond, ◌+◌, ◌*◌, ◌-◌, ◌≤◌, ◌<◌, ◌^◌, IfOk, IfSome, length, set, unwrap_or};
 ghost use Rattle.kdb.specs.Box.{in_window};
-ghost use Rattle.kdb.specs.Pages.{read_ents};
-ghost use Rattle.kdb.specs.Walk.{spots, spot_of, seek, find_walk, tour, list_walk};
-ghost use Rattle.kdb.specs.Calls.{L, window_of};
-ghost use Rattle.words.specs.Words.{word_at, keys_of, point_location, records_from, RecordIn, Fit};
-ghost use Rattle.walk.specs.Pages.{region_words, point_words, EntriesIn, RecordsIn};
-ghost use Rattle.walk.specs.Seek.{child_of, ended, sought_as};
-ghost use Rattle.walk.specs.List.{Kept, may_read, found_in, children_met, each, seen, moved_by, walked};
+ghost use Rattle.kdb.specs.Pool.{domains, pages_in, is_page};
+ghost use Rattle.kdb.specs.Walk.{spots, spot_of, seek, find_walk, list_walk};
+ghost use Rattle.kdb.specs.Calls.{L};
+ghost use Rattle.walk.specs.Pages.{kind_words, entries_of, records_of, Inside, reached};
+ghost use Rattle.walk.specs.Seek.{child_of, ended, sought_as, refusal_of};
+ghost use Rattle.walk.specs.List.{Kept, Entered, entered, found_in, children_met, seen, toured, walked};
+ghost use Rattle.walk.specs.declared.Missed.TheVariants.{Bad};
+ghost use Rattle.kdb.specs.declared.Refusal.TheVariants.{Unsound};
 
-use boxes::{in_window, meets_window, point_in, same_keys};
-use kdb::Form;
-use words::{domains_of, get, point_location, points_per, put, read, regions_per};
+use boxes::Sides;
+use kdb::Refusal;
+use words::{Kind, Pool};
 
-// How a search ended: at the record (page, slot, location, pages read), in the point page that lacks the point (page, pages read), at
-// a bad page (pages read), or before it began, for want of a root.
-#[derive(Clone, Copy)]
-pub enum Sought {
-    Here(usize, usize, usize, usize),
-    Absent(usize, usize),
-    Bad(usize),
+// Where a search found the point's record, and the pages read.
+#[derive(Clone, Copy, Debug, PartialEq, Eq)]
+pub struct Hit {
+    pub page: usize,
+    pub slot: usize,
+    pub location: u32,
+    pub reads: usize,
+}
+
+// Why a search found none: the point page that it came to lacks the point; a bad page; or there is no root.
+#[derive(Clone, Copy, Debug, PartialEq, Eq)]
+pub enum Missed {
+    Absent { page: usize, reads: usize },
+    Bad { reads: usize },
     NoRoot,
 }
 
-// What list's walk has counted, and whether it has stopped at a bad page or at the bound.
-#[derive(Clone, Copy)]
+impl From<Missed> for Refusal {
+    ghost from_gives = { λ m r. r ≡ refusal_of m };
+
+    fn from(m: Missed) -> Refusal {
+        match m {
+            Missed::Absent { .. } | Missed::NoRoot => Refusal::Absent,
+            Missed::Bad { .. } => Refusal::Unsound,
+        }
+    }
+}
+
+// What list's walk has counted.
+#[derive(Clone, Copy, Debug, PartialEq, Eq)]
 pub struct Tally {
     pub reads: usize,
     pub total: usize,
-    pub bad: bool,
 }
 
-fn is_page(f: Form, j: usize) -> bool
-    ensures { result ≡ leb 1 j && ltb j f.pages }
-{
-    (1 <= j) & (j < f.pages)
+// A walk that has stopped, at a bad page or at the bound, with the pages read.
+#[derive(Clone, Copy, Debug, PartialEq, Eq)]
+pub struct Stopped {
+    pub reads: usize,
 }
 
-// Page j is a region page with a count of 1 to R.
-fn region_page(pool: &[u32], f: Form, j: usize) -> bool
-    requires { Fit pool.now f }
-    ensures { result ≡ region_words pool.now f.domains j }
-{
-    if f.pages <= j {
-        return false;
+impl From<Stopped> for Refusal {
+    ghost from_gives = { λ _ r. r ≡ Unsound };
+
+    fn from(_s: Stopped) -> Refusal {
+        Refusal::Unsound
     }
-    let count = read(pool, 32 * j + 1);
-    (read(pool, 32 * j) == 1) & (1 <= count) & (count <= regions_per(domains_of(f)))
 }
 
-// Page j is a point page with a count within P.
-fn point_page(pool: &[u32], f: Form, j: usize) -> bool
-    requires { Fit pool.now f }
-    ensures { result ≡ point_words pool.now f.domains j }
-{
-    if f.pages <= j {
-        return false;
+impl From<Stopped> for Missed {
+    ghost from_gives = { λ s m. m ≡ Bad s.reads };
+
+    fn from(s: Stopped) -> Missed {
+        Missed::Bad { reads: s.reads }
     }
-    (read(pool, 32 * j) == 2) & (read(pool, 32 * j + 1) <= points_per(domains_of(f)))
 }
 
-// The child in the first entry of page j, in page order, whose region holds the point, or 0.
-fn child_for(pool: &[u32], f: Form, point: &[u32], j: usize) -> usize
-    requires { EntriesIn pool.now f.domains j × (length point.now ≡ f.domains) }
-    ensures { (result ≡ child_of point.now (read_ents f.domains (word_at pool.now j 1) (drop (L * j + 4) pool.now))) × (result < 2 ^ 32) }
+// Page j is of the kind, with a count within R from 1, or within P.
+fn is_of(pool: &Pool, kind: Kind, j: usize) -> bool
+    requires { (j < 2 ^ 32) × (j < pages_in L pool.now) }
+    ensures { result ≡ kind_words pool.now (domains pool.now) kind j }
 {
-    let k = domains_of(f);
-    let count = read(pool, 32 * j + 1);
-    let mut at = 32 * j + 4;
-    let mut e: usize = 0;
-    while e < count {
-        if point_in(pool, k, at, point) {
-            return read(pool, at + 2 * k);
+    let count = pool.read(32 * j + 1);
+    (pool.read(32 * j) == kind as usize)
+        & (usize::from(kind == Kind::Region) <= count)
+        & (count <= kind.capacity(pool.domains()))
+}
+
+// Reads page j, which is to be of the kind: the pages read with it.
+fn read_page(pool: &Pool, kind: Kind, j: usize, reads: usize) -> Result<usize, Stopped>
+    requires { (j < 2 ^ 32) × (reads < 2 ^ 32) }
+    ensures { (result ≡ reached pool.now kind j reads) × IfOk result (λ n. (n ≡ reads + 1) × Inside pool.now kind j) }
+{
+    if (j == 0) | (pool.form().pages <= j) {
+        return Err(Stopped { reads });
+    }
+    if !is_of(pool, kind, j) {
+        return Err(Stopped { reads: reads + 1 });
+    }
+    Ok(reads + 1)
+}
+
+// A point that is sought in a pool.
+#[derive(Drop)]
+struct Sought<'a> {
+    pool: &'a Pool<'a>,
+    point: &'a [u32],
+    ghost fits: { length point.now ≡ domains pool.now },
+}
+
+impl Sought<'_> {
+    // The child in the first entry of page j, in page order, whose region holds the point.
+    #[tactic(auto, using(crate::proofs::Seek::child_here, crate::proofs::Seek::child_next))]
+    fn child(&self, j: usize) -> Option<usize>
+        requires { Inside self.now.pool.now Kind.Region j }
+        ensures { (unwrap_or result 0 ≡ child_of self.now.point.now (entries_of self.now.pool.now j)) × IfSome result (λ i. i < 2 ^ 32) }
+    {
+        let pool = self.pool;
+        let k = pool.domains();
+        for e in 0..pool.read(32 * j + 1) {
+            let at = 32 * j + 4 + e * (2 * k + 1);
+            if Sides::region(pool.words, k, at).holds(self.point) {
+                return Some(pool.read(at + 2 * k));
+            }
         }
-        at += 2 * k + 1;
-        e += 1;
+        None
     }
-    0
-}
 
-// The first record of page j, in page order, with the point's keys.
-fn record_for(pool: &[u32], f: Form, point: &[u32], j: usize, reads: usize) -> Sought
-    requires { RecordsIn pool.now f.domains j × (length point.now ≡ f.domains) }
-    ensures { result ≡ ended reads (spot_of j point.now (spots j 0 (records_from f.domains pool.now j (word_at pool.now j 1) 0))) }
-{
-    let count = read(pool, 32 * j + 1);
-    let mut e: usize = 0;
-    while e < count {
-        if same_keys(pool, f, j, e, point) {
-            return Sought::Here(j, e, point_location(pool, f, j, e), reads);
+    // The first record of page j, in page order, with the point's keys.
+    #[tactic(auto, using(crate::proofs::Seek::same_keys, crate::proofs::Seek::record_here, crate::proofs::Seek::record_next))]
+    fn record(&self, j: usize, reads: usize) -> Result<Hit, Missed>
+        requires { Inside self.now.pool.now Kind.Point j }
+        ensures { result ≡ ended reads (spot_of j self.now.point.now (spots j 0 (records_of self.now.pool.now j))) }
+    {
+        let pool = self.pool;
+        let count = pool.read(32 * j + 1);
+        for slot in 0..count {
+            if self.point == pool.keys(j, slot) {
+                return Ok(Hit {
+                    page: j,
+                    slot,
+                    location: pool.location(j, slot),
+                    reads,
+                });
+            }
         }
-        e += 1;
+        Err(Missed::Absent { page: j, reads })
     }
-    Sought::Absent(j, reads)
-}
 
-// The search's last level, at page j.
-fn at_points(pool: &[u32], f: Form, point: &[u32], j: usize, reads: usize) -> Sought
-    requires { Fit pool.now f × ((length point.now ≡ f.domains) × ((j < 2 ^ 32) × (reads < 2 ^ 32))) }
-    ensures { result ≡ sought_as reads (seek L pool.now point.now 0 j) }
-{
-    if !is_page(f, j) {
-        return Sought::Bad(reads);
-    }
-    if !point_page(pool, f, j) {
-        return Sought::Bad(reads + 1);
-    }
-    record_for(pool, f, point, j, reads + 1)
-}
-
-// From page j down: at each level into the first entry that holds the point.
-fn descend(pool: &[u32], f: Form, point: &[u32], root: usize, levels: usize) -> Sought
-    requires { Fit pool.now f × ((length point.now ≡ f.domains) × ((root < 2 ^ 32) × (levels < 2 ^ 32))) }
-    ensures { result ≡ sought_as 0 (seek L pool.now point.now (levels - 1) root) }
-{
-    let mut j = root;
-    let mut left = levels;
-    let mut reads: usize = 0;
-    while 1 < left {
-        if !is_page(f, j) {
-            return Sought::Bad(reads);
+    // From page j down: at each level into the first entry that holds the point.
+    #[tactic(auto, using(crate::proofs::Seek::level_bad, crate::proofs::Seek::level_next, crate::proofs::Seek::level_lost, crate::proofs::Seek::last_bad, crate::proofs::Seek::last_good))]
+    fn descend(&self, root: usize, levels: usize) -> Result<Hit, Missed>
+        requires { (root < 2 ^ 32) × (levels < 2 ^ 32) }
+        ensures { result ≡ sought_as 0 (seek L self.now.pool.now self.now.point.now (levels - 1) root) }
+    {
+        let mut j = root;
+        let mut reads = 0;
+        for _ in 1..levels {
+            reads = read_page(self.pool, Kind::Region, j, reads)?;
+            j = self.child(j).ok_or(Missed::Bad { reads })?;
         }
-        if !region_page(pool, f, j) {
-            return Sought::Bad(reads + 1);
-        }
-        j = child_for(pool, f, point, j);
-        left -= 1;
-        reads += 1;
+        reads = read_page(self.pool, Kind::Point, j, reads)?;
+        self.record(j, reads)
     }
-    at_points(pool, f, point, j, reads)
 }
 
-// The search for a point in a pool of form f with a good header.
-pub fn search(pool: &[u32], f: Form, point: &[u32]) -> Sought
-    requires { Fit pool.now f × (length point.now ≡ f.domains) }
+// The search for a point in a pool.
+pub fn search(pool: &Pool, point: &[u32]) -> Result<Hit, Missed>
+    requires { length point.now ≡ domains pool.now }
     ensures { result ≡ sought_as 0 (find_walk L pool.now point.now) }
 {
-    let levels = read(pool, 3);
+    let root = pool.words[2] as usize;
+    let levels = pool.words[3] as usize;
     if levels == 0 {
-        return Sought::NoRoot;
+        return Err(Missed::NoRoot);
     }
-    descend(pool, f, point, read(pool, 2), levels)
+    // The whole point: the compiler now knows its length.
+    let point = &point[..pool.domains()];
+    Sought { pool, point }.descend(root, levels)
 }
 
-// Whether a walk that has not stopped may read page j: it is a page, and the bound allows one more.
-fn may_read(f: Form, j: usize, s: Tally) -> bool
-    requires { (f.pages ≤ 512) × Kept f.pages s }
-    ensures { result ≡ may_read f.pages j s }
+// List's walk reads page j, if the bound allows one more: the state with it.
+fn enter(pool: &Pool, kind: Kind, j: usize, s: Tally) -> Result<Tally, Stopped>
+    requires { (j < 2 ^ 32) × Kept (pages_in L pool.now) s }
+    ensures { (result ≡ entered pool.now kind j s) × IfOk result (Entered pool.now kind j) }
 {
-    is_page(f, j) & (s.reads + 1 < f.pages)
-}
-
-// A walk that has stopped.
-fn stopped(reads: usize, total: usize) -> Tally
-    ensures { result ≡ record { reads = reads; total = total; bad = true } }
-{
-    Tally {
-        reads,
-        total,
-        bad: true,
+    if pool.pages() <= s.reads + 1 {
+        return Err(Stopped { reads: s.reads });
     }
+    Ok(Tally {
+        reads: read_page(pool, kind, j, s.reads)?,
+        total: s.total,
+    })
 }
 
-// 1 where it holds, else 0.
-fn one(holds: bool) -> usize
-    ensures { (result ≡ bit holds) × (result ≤ 1) }
-{
-    if holds { 1 } else { 0 }
-}
-
-// The one word where it holds, else the other.
-fn either(holds: bool, one: usize, other: usize) -> usize
-    requires { (one < 2 ^ 32) × (other < 2 ^ 32) }
-    ensures { (result ≡ cond holds one other) × (result < 2 ^ 32) }
+// The one place where it holds, else the other: the words in both may wait.
+fn either<'a>(holds: bool, one: &'a u32, other: &'a u32) -> &'a u32
+    ensures { result.now ≡ cond holds one.now other.now }
 {
     if holds { one } else { other }
 }
 
 // One record: the total after it, with its location in its slot of the answer. A slot is written in either case, as it was or anew: the
 // records decide no branch.
-fn visit(
-    pool: &[u32],
-    f: Form,
-    window: &[u32],
-    answer: &mut [u32],
-    j: usize,
-    slot: usize,
-    total: usize,
-) -> usize
-    requires { RecordIn pool.now f.domains j slot × ((length window.now ≡ 2 * f.domains) × (total < 2 ^ 40)) }
-    ensures { (result ≡ cond (in_window (window_of f.domains window.now) (keys_of f.domains pool.now j slot)) (total + 1) total)
-        × ((answer.new ≡ cond (in_window (window_of f.domains window.now) (keys_of f.domains pool.now j slot)) (set answer.old total (point_location pool.now f.domains j slot)) answer.old) × (result ≤ total + 1)) }
+fn visit(window: &Sides, answer: &mut [u32], keys: &[u32], location: &u32, total: usize) -> usize
+    requires { (length keys.now ≡ length window.now) × (total < 2 ^ 40) }
+    ensures { (result ≡ cond (in_window window.now keys.now) (total + 1) total)
+        × ((answer.new ≡ cond (in_window window.now keys.now) (set answer.old total location.now) answer.old) × (result ≤ total + 1)) }
 {
-    let held = in_window(pool, f, j, slot, window);
-    let location = point_location(pool, f, j, slot);
-    let old = get(answer, total);
-    put(answer, total, either(held, location, old));
-    total + one(held)
+    let held = window.takes(keys);
+    if total < answer.len() {
+        answer[total] = *either(held, location, &answer[total]);
+    }
+    total + usize::from(held)
 }
 
-// The records of point page j that the window holds.
-fn list_points(
-    pool: &[u32],
-    f: Form,
-    window: &[u32],
-    answer: &mut [u32],
-    j: usize,
-    total: usize,
-) -> usize
-    requires { RecordsIn pool.now f.domains j × ((length window.now ≡ 2 * f.domains) × (total < 2 ^ 32)) }
-    ensures { ((result, answer.new) ≡ found_in pool.now f.domains (window_of f.domains window.now) j total answer.old) × (result ≤ total + 28) }
-{
-    let count = read(pool, 32 * j + 1);
-    let mut t = total;
-    let mut e: usize = 0;
-    while e < count {
-        t = visit(pool, f, window, answer, j, e, t);
-        e += 1;
-    }
-    t
+// A window that is walked in a pool.
+#[derive(Drop)]
+struct Tour<'a> {
+    pool: &'a Pool<'a>,
+    window: &'a Sides<'a>,
+    ghost fits: { length window.now ≡ domains pool.now },
 }
 
-// A page of the last level.
-fn list_leaf(pool: &[u32], f: Form, window: &[u32], answer: &mut [u32], j: usize, s: Tally) -> Tally
-    requires { Fit pool.now f × ((length window.now ≡ 2 * f.domains) × ((j < 2 ^ 32) × (Kept f.pages s × (s.bad ≡ false)))) }
-    ensures { (seen result answer.new ≡ moved_by f.pages (seen s answer.old) (tour L pool.now (window_of f.domains window.now) 0 j)) × Kept f.pages result }
-{
-    let total = s.total;
-    if !may_read(f, j, s) {
-        return stopped(s.reads, total);
+impl Tour<'_> {
+    // A copy of the window, as long as there are domains: the compiler then knows its length, and that no store changes it.
+    #[tactic(auto, using(boxes::proofs::Tests::long, std::proofs::Common::take_all))]
+    fn own_window(&self) -> Sides<'_>
+        ensures { (result ≡ self.now.window.now) × (length result ≡ domains self.now.pool.now) }
+    {
+        let k = self.pool.domains();
+        let window = self.window;
+        Sides {
+            low: &window.low[..k],
+            high: &window.high[..k],
+        }
     }
-    let reads = s.reads + 1;
-    if !point_page(pool, f, j) {
-        return stopped(reads, total);
+
+    // The records of point page j that the window holds.
+    #[tactic(auto, using(crate::proofs::List::record_words, crate::proofs::List::note_next))]
+    fn points(&self, answer: &mut [u32], j: usize, total: usize) -> usize
+        requires { Inside self.now.pool.now Kind.Point j × (total < 2 ^ 32) }
+        ensures { ((result, answer.new) ≡ found_in self.now.pool.now (domains self.now.pool.now) self.now.window.now j total answer.old) × (result ≤ total + 28) }
+    {
+        let pool = self.pool;
+        let k = pool.domains();
+        let words = pool.words;
+        let window = self.own_window();
+        let mut t = total;
+        for slot in 0..pool.read(32 * j + 1) {
+            let at = 32 * j + 4 + slot * (k + 1);
+            t = visit(&window, answer, &words[at..at + k], &words[at + k], t);
+        }
+        t
     }
-    Tally {
-        reads,
-        total: list_points(pool, f, window, answer, j, total),
-        bad: false,
+
+    // A page of the last level.
+    fn leaf(&self, answer: &mut [u32], j: usize, s: Tally) -> Result<Tally, Stopped>
+        requires { (j < 2 ^ 32) × Kept (pages_in L self.now.pool.now) s }
+        ensures { (seen result answer.new ≡ toured self.now.pool.now self.now.window.now s answer.old 0 j) × IfOk result (Kept (pages_in L self.now.pool.now)) }
+    {
+        let t = enter(self.pool, Kind::Point, j, s)?;
+        Ok(Tally {
+            reads: t.reads,
+            total: self.points(answer, j, t.total),
+        })
+    }
+
+    // The children of region page j whose regions meet the window, in page order, in the front of `child`. Every entry's child is written,
+    // and the next one over it if it does not meet: the regions decide no branch.
+    #[tactic(auto, using(crate::proofs::List::children_next, crate::proofs::List::one, crate::proofs::Pages::entries_few))]
+    fn meeting<'c>(&self, j: usize, child: &'c mut [u32]) -> &'c [u32]
+        requires { Inside self.now.pool.now Kind.Region j × (9 ≤ length child.old) }
+        ensures { result.now ≡ children_met self.now.window.now (entries_of self.now.pool.now j) }
+    {
+        let pool = self.pool;
+        let k = pool.domains();
+        let words = pool.words;
+        let window = self.own_window();
+        let mut m = 0;
+        for e in 0..pool.read(32 * j + 1) {
+            let at = 32 * j + 4 + e * (2 * k + 1);
+            child[m] = words[at + 2 * k];
+            m += usize::from(Sides::region(words, k, at).meets(&window));
+        }
+        &child[..m]
+    }
+
+    // A region page, and before the next page the pages below it that meet the window.
+    #[tactic(auto, using(crate::proofs::List::page_bad))]
+    #[cycle(levels)]
+    fn page(&self, answer: &mut [u32], level: usize, j: usize, s: Tally) -> Result<Tally, Stopped>
+        requires { (1 < level) × ((j < 2 ^ 32) × Kept (pages_in L self.now.pool.now) s) }
+        ensures { (seen result answer.new ≡ toured self.now.pool.now self.now.window.now s answer.old (level - 1) j) × IfOk result (Kept (pages_in L self.now.pool.now)) }
+    {
+        let mut t = enter(self.pool, Kind::Region, j, s)?;
+        // R is at most 9.
+        let mut room = [0; 9];
+        for i in self.meeting(j, &mut room) {
+            t = self.subtree(answer, level - 1, *i as usize, t)?;
+        }
+        Ok(t)
+    }
+
+    // Page j, which has that many levels, and those below it that meet the window. Inlined, since a page would cost two calls otherwise.
+    #[cycle(levels)]
+    #[inline(always)]
+    fn subtree(
+        &self,
+        answer: &mut [u32],
+        levels: usize,
+        j: usize,
+        s: Tally,
+    ) -> Result<Tally, Stopped>
+        requires { (1 ≤ levels) × ((j < 2 ^ 32) × Kept (pages_in L self.now.pool.now) s) }
+        ensures { (seen result answer.new ≡ toured self.now.pool.now self.now.window.now s answer.old (levels - 1) j) × IfOk result (Kept (pages_in L self.now.pool.now)) }
+    {
+        if levels == 1 {
+            self.leaf(answer, j, s)
+        } else {
+            self.page(answer, levels, j, s)
+        }
     }
 }
 
-// The children of region page j whose regions meet the window, in page order, to the front of `child`: how many. Every entry's child is
-// written, and the next one over it if it does not meet: the regions decide no branch.
-fn meeting(pool: &[u32], f: Form, window: &[u32], j: usize, child: &mut [u32]) -> usize
-    requires { EntriesIn pool.now f.domains j × ((length window.now ≡ 2 * f.domains) × (9 ≤ length child.old)) }
-    ensures { (take result child.new ≡ children_met (window_of f.domains window.now) (read_ents f.domains (word_at pool.now j 1) (drop (L * j + 4) pool.now))) × (result ≤ 9) }
+// List's walk of a window in a pool, its reads limited by the pages less 1.
+pub fn list_walk(pool: &Pool, window: &Sides, answer: &mut [u32]) -> Result<Tally, Stopped>
+    requires { length window.now ≡ domains pool.now }
+    ensures { seen result answer.new ≡ walked answer.old (list_walk L pool.now window.now) }
 {
-    let k = domains_of(f);
-    let count = read(pool, 32 * j + 1);
-    let mut m: usize = 0;
-    let mut at = 32 * j + 4;
-    let mut e: usize = 0;
-    while e < count {
-        child[m] = pool[at + 2 * k];
-        m += one(meets_window(pool, k, at, window));
-        at += 2 * k + 1;
-        e += 1;
-    }
-    m
-}
-
-// The first m of these pages, all of the last level.
-fn list_leaves(
-    pool: &[u32],
-    f: Form,
-    window: &[u32],
-    answer: &mut [u32],
-    child: &[u32],
-    m: usize,
-    s: Tally,
-) -> Tally
-    requires { Fit pool.now f × ((length window.now ≡ 2 * f.domains) × ((m ≤ length child.now) × Kept f.pages s)) }
-    ensures { (seen result answer.new ≡ moved_by f.pages (seen s answer.old) (each (tour L pool.now (window_of f.domains window.now) 0) (take m child.now))) × Kept f.pages result }
-{
-    let mut t = s;
-    let mut i: usize = 0;
-    while (i < m) & !t.bad {
-        t = list_leaf(pool, f, window, answer, read(child, i), t);
-        i += 1;
-    }
-    t
-}
-
-// A region page, and before the next page the pages below it that meet the window.
-fn list_page(
-    pool: &[u32],
-    f: Form,
-    window: &[u32],
-    answer: &mut [u32],
-    level: usize,
-    j: usize,
-    s: Tally,
-) -> Tally
-    requires { Fit pool.now f × ((length window.now ≡ 2 * f.domains) × ((1 < level) × ((j < 2 ^ 32) × (Kept f.pages s × (s.bad ≡ false))))) }
-    ensures { (seen result answer.new ≡ moved_by f.pages (seen s answer.old) (tour L pool.now (window_of f.domains window.now) (level - 1) j)) × Kept f.pages result }
-{
-    if !may_read(f, j, s) {
-        return stopped(s.reads, s.total);
-    }
-    let mut t = Tally {
-        reads: s.reads + 1,
-        total: s.total,
-        bad: false,
-    };
-    if !region_page(pool, f, j) {
-        return stopped(t.reads, t.total);
-    }
-    let mut child = [0u32; 9];
-    let m = meeting(pool, f, window, j, &mut child);
-    if level <= 2 {
-        return list_leaves(pool, f, window, answer, &child, m, t);
-    }
-    let mut i: usize = 0;
-    while (i < m) & !t.bad {
-        t = list_page(pool, f, window, answer, level - 1, read(&child, i), t);
-        i += 1;
-    }
-    t
-}
-
-// List's walk of a window in a pool of form f with a good header, its reads limited by the pages less 1.
-pub fn list_walk(pool: &[u32], f: Form, window: &[u32], answer: &mut [u32]) -> Tally
-    requires { Fit pool.now f × (length window.now ≡ 2 * f.domains) }
-    ensures { seen result answer.new ≡ walked answer.old (list_walk L pool.now (window_of f.domains window.now)) }
-{
-    let levels = read(pool, 3);
-    let s = Tally {
-        reads: 0,
-        total: 0,
-        bad: false,
-    };
+    let root = pool.words[2] as usize;
+    let levels = pool.words[3] as usize;
+    let s = Tally { reads: 0, total: 0 };
     if levels == 0 {
-        return s;
+        return Ok(s);
     }
-    let root = read(pool, 2);
-    if levels <= 1 {
-        return list_leaf(pool, f, window, answer, root, s);
-    }
-    list_page(pool, f, window, answer, levels, root, s)
+    Tour { pool, window }.subtree(answer, levels, root, s)
 }

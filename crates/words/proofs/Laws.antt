@@ -10,6 +10,9 @@ use lib.Dec.{eqb, leb, ltb, leb-suc-suc}
 use lib.ListN.{length, drop, get_or, replicate, length-replicate, drop_of_length-le}
 use lib.Seq.{sets, drop-cons}
 use borrow.Author.Tests.{eqb-true, lt-ltb, le-ltb}
+use Rattle.std.proofs.Common.{rules}
+use Rattle.std.specs.Prelude.{Option, Some, None, Result, Ok}
+use Rattle.std.specs.Option.{ok_or}
 use Rattle.kdb.specs.Lists.{bit, every}
 use Rattle.kdb.specs.Pages.{page}
 use Rattle.kdb.specs.Pool.{pages_in, good_length, good_header, GoodLength}
@@ -38,19 +41,24 @@ fit w a b =
     record { formed = record { words = g.long; least = g.least; most = g.most; some = h.least; few = h.most }; says = refl }
 
 -- what a count of pages tells
-pub count_none : (w : List ℕ) (n : ℕ) → n ≡ page_count w → n ≡ 0 → good_length L w ≡ false
-count_none w n e z = go (good_length L w) refl
+pub count_none : (w : List ℕ) → None ≡ page_count w → good_length L w ≡ false
+count_none w e = go (good_length L w) refl
   where
     go : (b : Bool) → good_length L w ≡ b → good_length L w ≡ false
-    go true t = absurd (let g = long w t in let q : n ≡ pages_in L w = e ∙ rw t in omega (arith, g.least))
+    go true t = absurd (let q : None ≡ Some (pages_in L w) = e ∙ rw t in search rules)
     go false t = t
 
-pub count_some : (w : List ℕ) (n : ℕ) → n ≡ page_count w → (n ≡ 0 → ⊥) → (good_length L w ≡ true) × (n ≡ pages_in L w)
-count_some w n e z = go (good_length L w) refl
+pub count_some : (w : List ℕ) (n : ℕ) → Some n ≡ page_count w → (good_length L w ≡ true) × (n ≡ pages_in L w)
+count_some w n e = go (good_length L w) refl
   where
     go : (b : Bool) → good_length L w ≡ b → (good_length L w ≡ true) × (n ≡ pages_in L w)
-    go true t = (t, e ∙ rw t)
-    go false t = absurd (z (e ∙ rw t))
+    go true t = (t, let q : Some n ≡ Some (pages_in L w) = e ∙ rw t in search rules)
+    go false t = absurd (let q : Some n ≡ None = e ∙ rw t in search rules)
+
+-- and what it is at the `?` of a call that opens
+pub counted : {E : Type 0} (w : List ℕ) (n : ℕ) (o : Option ℕ) (r : Result ℕ E) (e : E) → o ≡ page_count w → r ≡ ok_or o e → r ≡ Ok n → (good_length L w ≡ true) × (n ≡ pages_in L w)
+counted w n None r e p q t = absurd (search rules)
+counted w n (Some m) r e p q t = let i : m ≡ n = search rules in count_some w n (ap Some (sym i) ∙ p)
 
 pub both : (a b : Bool) → beq a b ≡ eqb (bit a) (bit b)
 both true true = refl

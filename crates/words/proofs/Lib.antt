@@ -1,4 +1,6 @@
 pub mod Loops
 pub mod Table
 pub mod Slots
+pub mod Chains
+pub mod Stores
 pub mod Laws

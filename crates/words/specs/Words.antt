@@ -1,12 +1,16 @@
 -- The words that the accessors give, over a whole pool. A word past the end is 0.
-use Rattle.std.specs.Prelude.{Bool, true, cond, List, [], ◌∷◌, ◌≡◌, ℕ, zero, suc, ◌+◌, ◌-◌, ◌*◌, ◌^◌, ◌≤◌, ◌<◌, eqb, length, take, drop, get_or}
+use Rattle.std.specs.Prelude.{Bool, true, cond, List, [], ◌∷◌, ◌≡◌, ℕ, zero, suc, ◌+◌, ◌-◌, ◌*◌, ◌^◌, ◌≤◌, ◌<◌, eqb, length, take, drop, get_or, Option, Some, None, Result, Ok, Err}
 use Rattle.kdb.specs.Lists.{only, up_from}
 use Rattle.kdb.specs.Box.{∞, Box, Key, sides}
 use Rattle.kdb.specs.Tree.{Rec}
 use Rattle.kdb.specs.Pages.{regions_per, points_per, read_recs}
-use Rattle.kdb.specs.Pool.{domains, pages_in, good_length}
+use Rattle.kdb.specs.Pool.{domains, pages_in, good_length, good_header}
 use Rattle.kdb.specs.Calls.{L}
 use Rattle.kdb.specs.declared.Form.{Form}
+use Rattle.kdb.specs.declared.Refusal.{Refusal}
+use Rattle.kdb.specs.declared.Refusal.TheVariants.{PoolLength, Unsound}
+use Rattle.words.specs.declared.Kind.{Kind}
+use Rattle.words.specs.declared.Kind.TheVariants.{Region, Point}
 use Rattle.words.specs.Loops.{all_by}
 
 -- word i of page j, where a page has M words; and where it has L
@@ -16,9 +20,9 @@ word M w j i = get_or w (M * j + i) 0
 abbrev pub word_at : List ℕ → ℕ → ℕ → ℕ
 word_at w j i = word L w j i
 
--- the number of pages, 0 for a pool of another length
-abbrev pub page_count : List ℕ → ℕ
-page_count w = cond (good_length L w) (pages_in L w) 0
+-- the number of pages of a pool of good length
+abbrev pub page_count : List ℕ → Option ℕ
+page_count w = cond (good_length L w) (Some (pages_in L w)) None
 
 -- the form that a pool's length and header say
 abbrev pub form_of : List ℕ → Form
@@ -37,6 +41,10 @@ pub record Fit (w : List ℕ) (f : Form) : Type 0 where
   pub formed : Formed w f
   pub says : domains w ≡ f.domains
 
+-- a pool of good length with a good header, or why not
+abbrev pub opened : List ℕ → Result (List ℕ) Refusal
+opened w = cond (good_length L w) (cond (good_header L w) (Ok w) (Err Unsound)) (Err PoolLength)
+
 -- the n words from a on are 0
 abbrev pub zero_at : List ℕ → ℕ → ℕ → Bool
 zero_at w n i = eqb 0 (get_or w i 0)
@@ -48,6 +56,19 @@ all_zero w a n = all_by n (zero_at w) 1 a true
 abbrev pub capacity_of : ℕ → ℕ → ℕ
 capacity_of zero k = regions_per L k
 capacity_of (suc kind) k = points_per L k
+
+-- R or P by the kind of a page, its first word, and the words of an entry
+abbrev pub capacity_by : Kind → ℕ → ℕ
+capacity_by Region k = capacity_of 0 k
+capacity_by Point k = capacity_of 1 k
+
+abbrev pub code_of : Kind → ℕ
+code_of Region = 1
+code_of Point = 2
+
+abbrev pub width_of : Kind → ℕ → ℕ
+width_of Region k = 2 * k + 1
+width_of Point k = k + 1
 
 -- where key d of the record in slot e of page j stands, and its location, behind its keys
 abbrev pub key_place : ℕ → ℕ → ℕ → ℕ → ℕ
@@ -68,6 +89,11 @@ free_from M w m j = only (λ i. eqb (word M w i 0) 0) (up_from m j)
 
 abbrev pub lowest : ℕ → ℕ → List ℕ → ℕ
 lowest M n w = get_or (free_from M w (n - 1) 1) 0 n
+
+-- the page that was found, or n
+abbrev pub page_or : ℕ → Option ℕ → ℕ
+page_or n None = n
+page_or n (Some j) = j
 
 -- the region at word a, and the keys of the record in slot e of page j
 abbrev pub region_at : ℕ → List ℕ → ℕ → Box

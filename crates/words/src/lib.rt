@@ -1,13 +1,46 @@
 #![tactic(auto)]
 
 // Words of a lent pool: what is read and written of a page, and nothing of the tree.
-ghost use Rattle.std.specs.Prelude.{◌≡◌, ◌+◌, ◌*◌, ◌-◌, ◌≤◌, ◌<◌, ◌^◌, min, max, length, get_or, set, replicate};
+ghost use Rattle.std.specs.Prelude.{◌≡◌, ◌+◌, ◌*◌, ◌-◌, ◌≤◌, ◌<◌, ◌^◌, ℕ, List, IfSome, length, get_or, set, replicate};
 ghost use Rattle.std.proofs.lemmas.List.Edits.{sets};
-ghost use Rattle.kdb.specs.Pool.{pages_in, good_header, GoodLength};
+ghost use Rattle.kdb.specs.Pool.{domains, pages_in, good_header, GoodLength};
 ghost use Rattle.kdb.specs.Calls.{L, finite};
-ghost use Rattle.words.specs.Words.{word_at, page_count, form_of, capacity_of, key_place, location_place, point_key, point_location, lowest, all_zero, RegionIn, RecordIn};
+ghost use Rattle.words.specs.Words.{word_at, page_count, form_of, opened, capacity_by, width_of, keys_of, point_location, page_or, lowest, all_zero, RecordIn, Fit};
 
-use kdb::Form;
+use kdb::{Form, Refusal};
+use std::marker::Model;
+
+// The kind of a page, as its first word has it; a page of another kind is free.
+#[derive(Clone, Copy, Debug, PartialEq, Eq)]
+pub enum Kind {
+    Region = 1,
+    Point = 2,
+}
+
+impl Kind {
+    // Entries a page: R or P.
+    pub fn capacity(self, k: usize) -> usize
+        requires { (1 ≤ k) × (k ≤ 4) }
+        ensures { result ≡ capacity_by self k }
+    {
+        let row = match self {
+            Kind::Region => 0,
+            Kind::Point => 1,
+        };
+        CAPACITIES[row][k - 1] as usize
+    }
+
+    // Words an entry: a region with its child, or a record.
+    pub fn width(self, k: usize) -> usize
+        requires { k ≤ 4 }
+        ensures { result ≡ width_of self k }
+    {
+        match self {
+            Kind::Region => 2 * k + 1,
+            Kind::Point => k + 1,
+        }
+    }
+}
 
 // Regions and points a page, by K from 1 to 4.
 const CAPACITIES: [[u32; 4]; 2] = [[9, 5, 4, 3], [14, 9, 7, 5]];
@@ -16,251 +49,199 @@ const CAPACITIES: [[u32; 4]; 2] = [[9, 5, 4, 3], [14, 9, 7, 5]];
 pub const WHOLE: [u32; 9] = [0, 0, 0, 0, u32::MAX, u32::MAX, u32::MAX, u32::MAX, 0];
 
 // The word at `at`, and 0 past the end.
-pub fn get(pool: &[u32], at: usize) -> usize
-    ensures { (result ≡ get_or pool.now at 0) × (result < 2 ^ 32) }
+pub fn get(words: &[u32], at: usize) -> usize
+    ensures { (result ≡ get_or words.now at 0) × (result < 2 ^ 32) }
 {
-    if at < pool.len() {
-        pool[at] as usize
-    } else {
-        0
+    match words.get(at) {
+        Some(word) => *word as usize,
+        None => 0,
     }
 }
 
-// The word at `at`, which is one of the pool's.
-pub fn read(pool: &[u32], at: usize) -> usize
-    requires { at < length pool.now }
-    ensures { (result ≡ get_or pool.now at 0) × (result < 2 ^ 32) }
-{
-    pool[at] as usize
-}
-
 // Sets the word at `at`, if there is one.
-pub fn put(x: &mut [u32], at: usize, v: usize)
+pub fn put(words: &mut [u32], at: usize, v: usize)
     requires { v < 2 ^ 32 }
-    ensures { x.new ≡ set x.old at v }
+    ensures { words.new ≡ set words.old at v }
 {
-    if at < x.len() {
-        x[at] = v as u32;
+    if at < words.len() {
+        words[at] = v as u32;
     }
 }
 
 // Word i of page j, and 0 past the end.
-pub fn word(pool: &[u32], j: usize, i: usize) -> usize
+pub fn word(words: &[u32], j: usize, i: usize) -> usize
     requires { (j < 2 ^ 32) × (i < 2 ^ 32) }
-    ensures { (result ≡ word_at pool.now j i) × (result < 2 ^ 32) }
+    ensures { (result ≡ word_at words.now j i) × (result < 2 ^ 32) }
 {
-    get(pool, 32 * j + i)
+    get(words, 32 * j + i)
 }
 
-// The number of pages, or 0 where the pool is not 32 × N words, N 2 to 512.
-pub fn page_count(pool: &[u32]) -> usize
-    ensures { result ≡ page_count pool.now }
+// The number of pages of a pool, which is 32 × N words, N 2 to 512.
+pub fn page_count(words: &[u32]) -> Option<usize>
+    ensures { result ≡ page_count words.now }
 {
-    let len = pool.len();
-    if (len % 32 == 0) & (2 <= len / 32) & (len / 32 <= 512) {
-        len / 32
+    let n = words.len() / 32;
+    if (words.len() % 32 == 0) & (2 <= n) & (n <= 512) {
+        Some(n)
     } else {
-        0
+        None
     }
 }
 
 // The form that the length and the first word of a pool say.
-pub fn form_of(pool: &[u32]) -> Form
-    ensures { (result ≡ form_of pool.now) × (result.domains < 2 ^ 32) }
+pub fn form_of(words: &[u32]) -> Form
+    ensures { (result ≡ form_of words.now) × (result.domains < 2 ^ 32) }
 {
     Form {
-        pages: pool.len() / 32,
-        domains: get(pool, 0),
+        pages: words.len() / 32,
+        domains: get(words, 0),
     }
 }
 
-// The smaller and the larger of two numbers.
-pub fn smaller(a: usize, b: usize) -> usize
-    ensures { result ≡ min a b }
-{
-    if a < b { a } else { b }
-}
-
-pub fn larger(a: usize, b: usize) -> usize
-    ensures { result ≡ max a b }
-{
-    if a < b { b } else { a }
-}
-
-// a less b, and 0 where b is more.
-pub fn less(a: usize, b: usize) -> usize
-    ensures { result ≡ a - b }
-{
-    if a < b { 0 } else { a - b }
-}
-
-// The words from `from` to `to`, which are the pool's, are 0.
-pub fn zeros_in(pool: &[u32], from: usize, to: usize) -> bool
-    requires { to ≤ length pool.now }
-    ensures { result ≡ all_zero pool.now from (to - from) }
+// The words from `from` to `to` are 0.
+pub fn zeros(words: &[u32], from: usize, to: usize) -> bool
+    ensures { result ≡ all_zero words.now from (to - from) }
 {
     let mut ok = true;
-    let mut i = from;
-    while i < to {
-        ok = ok & (0 == read(pool, i));
-        i += 1;
+    for i in from..to.min(words.len()) {
+        ok &= 0 == words[i];
     }
     ok
 }
 
-// The words from `from` to `to` are 0.
-pub fn zeros(pool: &[u32], from: usize, to: usize) -> bool
-    ensures { result ≡ all_zero pool.now from (to - from) }
-{
-    zeros_in(pool, from, smaller(to, pool.len()))
-}
-
 // The header of a pool, which is n pages long, is good.
-pub fn good_header(pool: &[u32], n: usize) -> bool
-    requires { GoodLength L pool.now × (n ≡ pages_in L pool.now) }
-    ensures { result ≡ good_header L pool.now }
+pub fn good_header(words: &[u32], n: usize) -> bool
+    requires { GoodLength L words.now × (n ≡ pages_in L words.now) }
+    ensures { result ≡ good_header L words.now }
 {
-    let k = read(pool, 0);
-    let root = read(pool, 2);
-    let levels = read(pool, 3);
+    let k = words[0] as usize;
+    let root = words[2] as usize;
+    let levels = words[3] as usize;
     (1 <= k)
         & (k <= 4)
-        & (read(pool, 1) == n)
+        & (words[1] as usize == n)
         & (root < n)
         & (levels < n)
         & ((root == 0) == (levels == 0))
-        & zeros_in(pool, 5, 32)
+        & zeros(words, 5, 32)
 }
 
 // No word is the word that stands for ∞.
-pub fn all_finite(x: &[u32]) -> bool
-    ensures { result ≡ finite x.now }
+pub fn all_finite(words: &[u32]) -> bool
+    ensures { result ≡ finite words.now }
 {
-    let mut i: usize = 0;
-    while i < x.len() {
-        if read(x, i) == 4294967295 {
-            return false;
-        }
-        i += 1;
-    }
-    true
-}
-
-// R for kind 0 and P for kind 1.
-fn capacity(kind: usize, k: usize) -> usize
-    requires { (kind < 2) × ((1 ≤ k) × (k ≤ 4)) }
-    ensures { result ≡ capacity_of kind k }
-{
-    CAPACITIES[kind][k - 1] as usize
-}
-
-// Regions a page.
-pub fn regions_per(k: usize) -> usize
-    requires { (1 ≤ k) × (k ≤ 4) }
-    ensures { result ≡ capacity_of 0 k }
-{
-    capacity(0, k)
-}
-
-// Points a page.
-pub fn points_per(k: usize) -> usize
-    requires { (1 ≤ k) × (k ≤ 4) }
-    ensures { result ≡ capacity_of 1 k }
-{
-    capacity(1, k)
-}
-
-// The domains of a form: from here on the compiler knows that they are 1 to 4.
-pub fn domains_of(f: Form) -> usize
-    requires { (1 ≤ f.domains) × (f.domains ≤ 4) }
-    ensures { result ≡ f.domains }
-{
-    smaller(f.domains - 1, 3) + 1
-}
-
-// Where key d of the record in a slot of point page j stands: a record is its keys, then its location.
-pub fn key_at(f: Form, j: usize, slot: usize, d: usize) -> usize
-    requires { (f.domains ≤ 4) × (key_place f.domains j slot d < 2 ^ 64) }
-    ensures { result ≡ key_place f.domains j slot d }
-{
-    32 * j + 4 + slot * (f.domains + 1) + d
-}
-
-// Where its location stands.
-pub fn location_at(f: Form, j: usize, slot: usize) -> usize
-    requires { (f.domains ≤ 4) × (location_place f.domains j slot < 2 ^ 64) }
-    ensures { result ≡ location_place f.domains j slot }
-{
-    key_at(f, j, slot, f.domains)
-}
-
-// Key d of the record in a slot of point page j.
-pub fn point_key(pool: &[u32], f: Form, j: usize, slot: usize, d: usize) -> usize
-    requires { RecordIn pool.now f.domains j slot × (d < f.domains) }
-    ensures { (result ≡ point_key pool.now f.domains j slot d) × (result < 2 ^ 32) }
-{
-    read(pool, key_at(f, j, slot, d))
-}
-
-// The location of the record in a slot of point page j.
-pub fn point_location(pool: &[u32], f: Form, j: usize, slot: usize) -> usize
-    requires { RecordIn pool.now f.domains j slot }
-    ensures { (result ≡ point_location pool.now f.domains j slot) × (result < 2 ^ 32) }
-{
-    read(pool, location_at(f, j, slot))
-}
-
-// The lower end in domain d of the region at word `at`.
-pub fn lower_end(pool: &[u32], k: usize, at: usize, d: usize) -> usize
-    requires { RegionIn pool.now k at × (d < k) }
-    ensures { (result ≡ get_or pool.now (at + d) 0) × (result < 2 ^ 32) }
-{
-    read(pool, at + d)
-}
-
-// The upper end in domain d of the region at word `at`.
-pub fn upper_end(pool: &[u32], k: usize, at: usize, d: usize) -> usize
-    requires { RegionIn pool.now k at × (d < k) }
-    ensures { (result ≡ get_or pool.now (at + k + d) 0) × (result < 2 ^ 32) }
-{
-    read(pool, at + k + d)
+    words.iter().all(|word| *word < u32::MAX)
 }
 
 // Copies a buffer over another, as far as that goes.
 pub fn copy(to: &mut [u32], from: &[u32])
     ensures { to.new ≡ sets to.old 0 from.now }
 {
-    let end = smaller(to.len(), from.len());
-    let mut i: usize = 0;
-    while i < end {
-        to[i] = from[i];
-        i += 1;
-    }
+    let n = to.len().min(from.len());
+    to[..n].copy_from_slice(&from[..n]);
 }
 
 // Zeroes the words from `from` to `to`.
-pub fn clear(x: &mut [u32], from: usize, to: usize)
-    ensures { x.new ≡ sets x.old from (replicate (to - from) 0) }
+pub fn clear(words: &mut [u32], from: usize, to: usize)
+    ensures { words.new ≡ sets words.old from (replicate (to - from) 0) }
 {
-    let end = smaller(to, x.len());
-    let mut i = from;
-    while i < end {
-        x[i] = 0;
-        i += 1;
+    let end = to.min(words.len());
+    if from < end {
+        words[from..end].fill(0);
     }
 }
 
-// The page to claim: the lowest from 1 to n - 1 whose kind is 0, or n.
-pub fn lowest_free(pool: &[u32], n: usize) -> usize
+// The page to claim: the lowest from 1 to n - 1 whose kind is 0.
+pub fn lowest_free(words: &[u32], n: usize) -> Option<usize>
     requires { (1 ≤ n) × (n < 2 ^ 32) }
-    ensures { (result ≡ lowest L n pool.now) × (result ≤ n) }
+    ensures { (page_or n result ≡ lowest L n words.now) × IfSome result (λ j. (1 ≤ j) × (j < n)) }
 {
-    let mut j: usize = 1;
-    while j < n {
-        if word(pool, j, 0) == 0 {
-            return j;
+    for j in 1..n {
+        if word(words, j, 0) == 0 {
+            return Some(j);
         }
-        j += 1;
     }
-    j
+    None
+}
+
+// A pool that is lent to be read, with its form: the words in which page and entry stand lie in it.
+#[derive(Drop)]
+pub struct Pool<'a> {
+    pub words: &'a [u32],
+    pub form: Form,
+}
+
+impl<'a> Model for Pool<'a> {
+    ghost Value = { List ℕ };
+
+    ghost view = { λ p. p.words.now };
+
+    ghost invariant = { λ p. Fit p.words.now p.form };
+}
+
+impl<'a> Pool<'a> {
+    // A pool of good length with a good header; else why not.
+    pub fn open(words: &'a [u32]) -> Result<Pool<'a>, Refusal>
+        ensures { result ≡ opened words.now }
+    {
+        let n = page_count(words).ok_or(Refusal::PoolLength)?;
+        if !good_header(words, n) {
+            return Err(Refusal::Unsound);
+        }
+        Ok(Pool {
+            words,
+            form: form_of(words),
+        })
+    }
+
+    // Its form.
+    pub fn form(&self) -> Form
+        ensures { (result ≡ form_of self.now) × Fit self.now result }
+    {
+        self.form
+    }
+
+    // The pages, with the header.
+    pub fn pages(&self) -> usize
+        ensures { (result ≡ pages_in L self.now) × ((2 ≤ result) × (result ≤ 512)) }
+    {
+        self.form.pages
+    }
+
+    // The domains: from here on the compiler knows that they are 1 to 4.
+    pub fn domains(&self) -> usize
+        ensures { (result ≡ domains self.now) × ((1 ≤ result) × (result ≤ 4)) }
+    {
+        (self.form.domains - 1).min(3) + 1
+    }
+
+    // The word at `at`, which is one of the pool's.
+    pub fn read(&self, at: usize) -> usize
+        requires { at < length self.now }
+        ensures { (result ≡ get_or self.now at 0) × (result < 2 ^ 32) }
+    {
+        let words = self.words;
+        words[at] as usize
+    }
+
+    // The keys of the record in a slot of point page j: a record is its keys, then its location.
+    pub fn keys(&self, j: usize, slot: usize) -> &'a [u32]
+        requires { RecordIn self.now (domains self.now) j slot }
+        ensures { (result.now ≡ keys_of (domains self.now) self.now j slot) × (length result.now ≡ domains self.now) }
+    {
+        let words = self.words;
+        let k = self.domains();
+        let at = 32 * j + 4 + slot * (k + 1);
+        &words[at..at + k]
+    }
+
+    // Its location.
+    pub fn location(&self, j: usize, slot: usize) -> u32
+        requires { RecordIn self.now (domains self.now) j slot }
+        ensures { result ≡ point_location self.now (domains self.now) j slot }
+    {
+        let words = self.words;
+        let k = self.domains();
+        words[32 * j + 4 + slot * (k + 1) + k]
+    }
 }

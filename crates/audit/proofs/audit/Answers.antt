@@ -1,19 +1,15 @@
--- `audit::audit` meets its contract: a pool of form f with a good header is sound.
-use mathlib.Core.Path.{◌∙◌}
+-- `audit::audit` meets its contract: a pool with a good header is sound.
+use Rattle.std.proofs.Common.{◌∙◌, sym}
 use Rattle.audit.proofs.Exact.{audit_says}
-use Rattle.audit.proofs.Turns.{audited_bad, audited_rest}
+use Rattle.audit.proofs.Turns.{audited_rest, audited_bad}
 use Rattle.audit.proofs.audit.Goals as goal
 
-pub walk-s-requires : goal.walk-s-requires
-walk-s-requires c = c.requires.0
+pub returns-then-eq : goal.returns-then-eq
+returns-then-eq c =
+    let a = audit_says c.args.pool.now _ (rw c.pool.view_is at c.pool.invariant) c.requires in
+    c.rest.ensures ∙ (audited_rest c.args.pool.now _ c.walk.ensures (sym c.eq.ensures ∙ c.if-eq.true) ∙ a)
 
-pub returns-then-s-left : goal.returns-then-s-left
-returns-then-s-left c = let p = c.requires in
-    audited_bad _ _ c.walk-s.ensures c.if-s-left.true ∙ audit_says _ _ p.0 p.1
-
-pub rest-requires : goal.rest-requires
-rest-requires c = c.requires.0.formed
-
-pub returns : goal.returns
-returns c = let p = c.requires in
-    c.rest.ensures ∙ (audited_rest _ _ c.walk-s.ensures c.if-s-left.false ∙ audit_says _ _ p.0 p.1)
+pub returns-else-eq : goal.returns-else-eq
+returns-else-eq c =
+    let a = audit_says c.args.pool.now _ (rw c.pool.view_is at c.pool.invariant) c.requires in
+    c.if-eq.false ∙ (audited_bad c.args.pool.now _ c.walk.ensures (sym c.eq.ensures ∙ c.if-eq.false) ∙ a)

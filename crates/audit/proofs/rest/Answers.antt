@@ -1,21 +1,12 @@
--- `audit::rest` meets its contract: every page behind the header that was not met is all zero.
-use Prim.Native.Nat.{◌-◌}
-use mathlib.Core.Bool.{true}
-use Rattle.words.proofs.Loops.{all_end, all_next}
-use Rattle.kdb.specs.Calls.{L}
-use Rattle.words.proofs.Laws.{pages}
-use Rattle.audit.specs.Walk.{cleared_of, rest_of}
-use Rattle.audit.proofs.Turns.{number_loop}
-use native.Mathlib.Omega.{arith}
+-- `audit::rest` meets its contract: the chain over the pages behind the header.
+use Rattle.std.proofs.Common.{◌∙◌, ◌-◌, refl, rules, tests}
+use Rattle.std.proofs.lemmas.Iterator.{YieldsList-from_range}
+use Rattle.std.proofs.lemmas.Iterator.Search.{all_from_yields_List}
+use Rattle.audit.proofs.Turns.{cleared_by, rest_is}
 use Rattle.audit.proofs.rest.Goals as goal
 
-pub loop-j-init : goal.loop-j-init
-unfolding rest_of
-loop-j-init c = let x = c.args in
-    (omega arith, rw (pages _ _ c.requires) (number_loop (x.f.pages - 1) (cleared_of L x.p.now x.met.now) 1 true))
-
-pub loop-j-preserved : goal.loop-j-preserved
-loop-j-preserved c = (omega arith, rw c.free-ok.ensures (all_next _ _ _ _ _ _ _ c.loop-j.invariant.1 (omega arith)))
-
 pub returns : goal.returns
-returns c = all_end _ _ _ _ _ _ _ c.loop-j.invariant.1 (omega arith)
+returns c =
+    let w = c.args.pool.now in
+    all_from_yields_List (cleared_by c.pool.inside.words.now c.args.met.now) c.all.new.self _ c.all.result c.all.ensures.ran (YieldsList-from_range 1 c.pages.result (c.pages.result - 1) refl refl) (λ x b q r. search (rules, tests))
+    ∙ rw (c.pages.ensures.0, c.pool.view_is) (rest_is w c.args.met.now)

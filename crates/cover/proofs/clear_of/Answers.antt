@@ -1,27 +1,26 @@
--- `cover::clear_of` meets its contract: region by region, and out at the first that shares a key.
-use mathlib.Core.Path.{refl, sym, ◌∙◌}
-use native.Mathlib.Nat.{sub-zero}
-use Rattle.cover.proofs.Loops.{region_first, clear_end, clear_stop, clear_next}
-use native.Mathlib.Omega.{arith}
+-- `cover::clear_of` meets its contract: the chain over the entries is `clear_of`.
+use Rattle.std.proofs.Common.{◌≡◌, ℕ, ◌+◌, ◌*◌, ◌∙◌, refl, ap, sym, length, not, arith, rules, tests}
+use Rattle.std.proofs.lemmas.Iterator.Search.{all_from_yields_List}
+use Rattle.std.proofs.lemmas.Iterator.Adapters.{serves_from_places}
+use Rattle.boxes.proofs.Tests.{seen}
+use Rattle.words.specs.Words.{region_at}
+use Rattle.cover.specs.Boxes.{overlap, clear_of, regions_of}
+use Rattle.cover.proofs.Entries.{YieldsList-from_chunks_exact, piece_of, clear_pieces}
 use Rattle.cover.proofs.clear_of.Goals as goal
 
-pub loop-e-init : goal.loop-e-init
-loop-e-init c = rw (sub-zero c.args.left) (record { row = c.requires.1; rest = refl })
-
-pub share-requires : goal.share-requires
-share-requires c = let x = c.args in
-    (c.requires.0, region_first x.p.now x.k _ x.left _ c.loop-e.invariant.row (omega arith))
-
-pub returns-then-share : goal.returns-then-share
-returns-then-share c = clear_stop _ _ _ _ _ _ _ c.loop-e.invariant (omega arith) (sym c.share.ensures ∙ c.if-share.true)
-
-pub overflow_add-b-in-loop-e : goal.overflow_add-b-in-loop-e
-overflow_add-b-in-loop-e c = let x = c.args in
-    let f = region_first x.p.now x.k _ x.left _ c.loop-e.invariant.row (omega arith) in
-    omega arith
-
-pub loop-e-preserved : goal.loop-e-preserved
-loop-e-preserved c = clear_next _ _ _ _ _ _ _ c.loop-e.invariant (omega arith) (sym c.share.ensures ∙ c.if-share.false)
+pub all-requires-clause-callable : goal.all-requires-clause-callable
+all-requires-clause-callable c =
+    let k = length c.region.inside.low.now in
+    let ws = c.args.entries.now in
+    let n : length c.args.region.now ≡ k = seen _ _ _ _ c.region.view_is c.region.invariant refl in
+    serves_from_places (YieldsList-from_chunks_exact (2 * k + 1) ws (omega arith) (cc) (cc)) (λ x q r. search rules)
+    (λ x i l e. let w : length x.now ≡ 2 * k + 1 = piece_of (2 * k + 1) ws i x.now l e in search rules)
 
 pub returns : goal.returns
-returns c = clear_end _ _ _ _ _ _ _ c.loop-e.invariant (omega arith)
+returns c =
+    let k = length c.region.inside.low.now in
+    let ws = c.args.entries.now in
+    let n : length c.args.region.now ≡ k = seen _ _ _ _ c.region.view_is c.region.invariant refl in
+    all_from_yields_List (λ x. not (overlap c.args.region.now (region_at k x 0))) c.all.new.self _ c.all.result c.all.ensures.ran (YieldsList-from_chunks_exact (2 * k + 1) ws (omega arith) (cc) (cc)) (λ x b q r. search (rules, tests))
+    ∙ clear_pieces k c.args.region.now ws
+    ∙ ap (λ (i : ℕ). clear_of c.args.region.now (regions_of i ws)) (sym n)

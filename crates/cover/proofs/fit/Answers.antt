@@ -1,39 +1,42 @@
--- `cover::fit` meets its contract: region by region, and out at the first that is not inside or shares a key with a later one.
-use mathlib.Core.Path.{refl, sym, ◌∙◌}
-use native.Mathlib.Nat.{sub-zero}
-use Rattle.cover.proofs.Loops.{region_first, row_next, fits_end, fits_out, fits_met, fits_next}
-use native.Mathlib.Omega.{arith}
+-- `cover::fit` meets its contract: entry by entry, and out at the first that is not inside or shares a key with a later one.
+use Rattle.std.proofs.Common.{◌≡◌, ◌∙◌, refl, sym, length, arith}
+use Rattle.boxes.proofs.Tests.{seen}
+use Rattle.cover.proofs.Entries.{first_in, fits_out, fits_met, fits_next, fits_end}
 use Rattle.cover.proofs.fit.Goals as goal
+use Rattle.cover.proofs.fit.Goals.{then-not-inside-via-then-not-inside, then-not-inside-via-else-not-inside+then-not-clear_of}
 
-pub loop-e-init : goal.loop-e-init
-loop-e-init c = rw (sub-zero c.args.count) (record { row = c.requires.0; rest = refl })
+pub region-first-requires : goal.region-first-requires
+region-first-requires c =
+    let n : length c.args.region.now ≡ length c.region.inside.low.now = seen _ _ _ _ c.region.view_is c.region.invariant refl in
+    first_in _ c.loop-entry.rest.now _ c.in-Some.later.now c.in-Some.ensures.cases (omega (arith, c.requires))
 
 pub inside-requires : goal.inside-requires
-inside-requires c = (region_first _ _ _ _ _ c.loop-e.invariant.row (omega arith), c.requires.1)
-
-pub returns-then-not-inside : goal.returns-then-not-inside
-returns-then-not-inside c = fits_out _ _ _ _ _ _ _ c.loop-e.invariant (omega arith) (sym c.inside.ensures ∙ c.if-not-inside.true)
-
-pub overflow_add-a : goal.overflow_add-a
-overflow_add-a c = let x = c.args in
-    let f = region_first x.p.now x.k _ x.count _ c.loop-e.invariant.row (omega arith) in
-    omega arith
+inside-requires c =
+    let n : length c.args.region.now ≡ length c.region.inside.low.now = seen _ _ _ _ c.region.view_is c.region.invariant refl in
+    omega (arith, c.region-first.ensures.1)
 
 pub clear_of-requires : goal.clear_of-requires
-clear_of-requires c = (region_first _ _ _ _ _ c.loop-e.invariant.row (omega arith), row_next _ _ _ _ _ c.loop-e.invariant.row (omega arith))
+clear_of-requires c =
+    let n : length c.args.region.now ≡ length c.region.inside.low.now = seen _ _ _ _ c.region.view_is c.region.invariant refl in
+    omega (arith, c.region-first.ensures.1, c.requires)
 
-pub returns-then-not-clear_of : goal.returns-then-not-clear_of
-returns-then-not-clear_of c = fits_met _ _ _ _ _ _ _ c.loop-e.invariant (omega arith)
-    (sym c.inside.ensures ∙ c.if-not-inside.false) (sym c.clear_of.ensures ∙ c.if-not-clear_of.true)
+pub returns-then-not-inside : goal.returns-then-not-inside
+returns-then-not-inside c =
+    let n : length c.args.region.now ≡ length c.region.inside.low.now = seen _ _ _ _ c.region.view_is c.region.invariant refl in
+    let r = c.loop-entry.rest.now in
+    elim c.then-not-inside.branch [
+      | then-not-inside-via-then-not-inside w ↦
+          fits_out _ r _ _ c.in-Some.ensures.cases _ _ _ _ n c.region-first.ensures c.loop-entry.invariant (sym c.inside.ensures ∙ w.if-not-inside.true)
+      | then-not-inside-via-else-not-inside+then-not-clear_of w ↦
+          fits_met _ r _ _ c.in-Some.ensures.cases _ _ _ _ n c.region-first.ensures c.loop-entry.invariant (sym c.inside.ensures ∙ w.if-not-inside.false) (sym w.clear_of.ensures ∙ w.if-not-clear_of.true)
+    ]
 
-pub overflow_add-a-in-loop-e-2 : goal.overflow_add-a-in-loop-e-2
-overflow_add-a-in-loop-e-2 c = let x = c.args in
-    let f = region_first x.p.now x.k _ x.count _ c.loop-e.invariant.row (omega arith) in
-    omega arith
-
-pub loop-e-preserved : goal.loop-e-preserved
-loop-e-preserved c = fits_next _ _ _ _ _ _ _ c.loop-e.invariant (omega arith)
-    (sym c.inside.ensures ∙ c.if-not-inside.false) (sym c.clear_of.ensures ∙ c.if-not-clear_of.false)
+pub loop-entry-preserved : goal.loop-entry-preserved
+loop-entry-preserved c =
+    let n : length c.args.region.now ≡ length c.region.inside.low.now = seen _ _ _ _ c.region.view_is c.region.invariant refl in
+    fits_next _ c.loop-entry.rest.now _ _ c.in-Some.ensures.cases _ _ _ _ n c.region-first.ensures c.loop-entry.invariant (sym c.inside.ensures ∙ c.if-not-inside.false) (sym c.clear_of.ensures ∙ c.if-not-clear_of.false)
 
 pub returns : goal.returns
-returns c = fits_end _ _ _ _ _ _ _ c.loop-e.invariant (omega arith)
+returns c =
+    let n : length c.args.region.now ≡ length c.region.inside.low.now = seen _ _ _ _ c.region.view_is c.region.invariant refl in
+    sym (fits_end _ c.loop-entry.rest.now _ (omega (arith, c.in_default.ensures.cases))) ∙ c.loop-entry.invariant

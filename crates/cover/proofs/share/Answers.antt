@@ -1,19 +1,30 @@
--- `cover::share` meets its contract: side by side, and out at the first that has no common key.
-use mathlib.Core.Path.{refl}
-use Rattle.cover.proofs.Loops.{beside_end, beside_stop, beside_next}
-use native.Mathlib.Omega.{arith}
+-- `cover::share` meets its contract: the chain over the domains is `overlap`.
+use Rattle.std.proofs.Common.{◌≡◌, ◌∙◌, refl, ap, ap₂, sym, length, arith, rules, tests}
+use Rattle.std.proofs.lemmas.Iterator.{YieldsList-from_range, serves_from_Range}
+use Rattle.std.proofs.lemmas.Iterator.Search.{all_from_yields_List}
+use Rattle.cover.specs.Boxes.{overlap, overlap_side}
+use Rattle.cover.proofs.Sides.{side_of, beside}
+use Rattle.boxes.proofs.Tests.{seen, long}
 use Rattle.cover.proofs.share.Goals as goal
 
-pub loop-i-init : goal.loop-i-init
-loop-i-init c = record { one = c.requires.0; other = c.requires.1; rest = refl }
-
-pub returns-then-not-lower_end-upper_end : goal.returns-then-not-lower_end-upper_end
-returns-then-not-lower_end-upper_end c = beside_stop _ _ _ _ _ _ _ _ c.loop-i.invariant (omega arith)
-    ((rw (c.upper_end-in-loop-i.ensures.0, c.lower_end-in-loop-i.ensures.0, c.upper_end.ensures.0, c.lower_end.ensures.0) at c.if-not-lower_end-upper_end.true))
-
-pub loop-i-preserved : goal.loop-i-preserved
-loop-i-preserved c = beside_next _ _ _ _ _ _ _ _ c.loop-i.invariant (omega arith)
-    ((rw (c.upper_end-in-loop-i.ensures.0, c.lower_end-in-loop-i.ensures.0, c.upper_end.ensures.0, c.lower_end.ensures.0) at c.if-not-lower_end-upper_end.false))
+pub all-requires-clause-callable : goal.all-requires-clause-callable
+all-requires-clause-callable c =
+    let s = c.one in
+    let v = c.other in
+    let ends : length s.inside.low.now ≡ length s.inside.high.now = s.invariant in
+    let others : length v.inside.low.now ≡ length v.inside.high.now = v.invariant in
+    let as_long : length v.inside.low.now ≡ length s.inside.low.now =
+    seen _ s.inside.low.now _ _ s.view_is s.invariant (sym (long v.inside.low.now _ v.invariant) ∙ ap length v.view_is ∙ c.requires) in
+    serves_from_Range (λ x q r. search rules) (λ x g h. search rules)
 
 pub returns : goal.returns
-returns c = beside_end _ _ _ _ _ _ _ _ c.loop-i.invariant (omega arith)
+returns c =
+    let s = c.one in
+    let v = c.other in
+    let l = s.inside.low.now in
+    let u = s.inside.high.now in
+    let m = v.inside.low.now in
+    let n = v.inside.high.now in
+    all_from_yields_List (λ d. overlap_side (side_of l u d) (side_of m n d)) c.all.new.self _ c.all.result c.all.ensures.ran (YieldsList-from_range 0 (length l) (length l) refl (omega arith)) (λ x b q k. search (rules, tests))
+    ∙ beside overlap_side l u m n s.invariant v.invariant (seen _ l u _ s.view_is s.invariant (sym (long m n v.invariant) ∙ ap length v.view_is ∙ c.requires)) 0 (length l) (omega arith)
+    ∙ ap₂ overlap s.view_is v.view_is

@@ -1,24 +1,25 @@
--- `cover::volume` meets its contract: the product of the sides, which for at most four does not pass two words.
-use Rattle.cover.proofs.Amounts.{side_some, side_small, product_next, product_end}
-use native.Mathlib.Omega.{arith}
+-- `cover::volume` meets its contract: the product of the sides so far, which for at most four does not pass 128 bits.
+use Rattle.std.proofs.Common.{ap, length, arith, rules}
+use Rattle.std.proofs.lemmas.List.{length_push}
+use Rattle.std.proofs.lemmas.Slice.Zip.{zip_turn, zip_end}
+use Rattle.boxes.proofs.Tests.{long}
+use Rattle.cover.proofs.Sides.{product_turn, product_fits, product_end}
 use Rattle.cover.proofs.volume.Goals as goal
 
-pub loop-i-init : goal.loop-i-init
-loop-i-init c = c.plane.ensures
+pub overflow_mul-keys : goal.overflow_mul-keys
+overflow_mul-keys c =
+    let s = c.region.inside in
+    let t = zip_turn s.low.now s.high.now c.loop-low.yielded c.into_iter-low-iterator.result c.loop-low.low-iterator c.next.new.self _ (cc) (cc) c.loop-low.yielded_by _ c.in-Some.is c.next.ensures.steps in
+    omega (arith, product_fits _ _ _ c.from-keys.result c.loop-low.invariant.2 (omega (arith, t.0, long s.low.now s.high.now c.region.invariant, ap length c.region.view_is, c.requires)) (omega (arith, c.from-keys.ensures)))
 
-pub overflow_sub-upper_end : goal.overflow_sub-upper_end
-overflow_sub-upper_end c = let x = c.args in
-    omega (arith, c.upper_end.ensures.0, c.lower_end-x.ensures.0, side_some x.p.now x.k x.a _ _ c.loop-i.invariant c.requires.0 (omega arith))
-
-pub times-v-requires : goal.times-v-requires
-times-v-requires c = let x = c.args in
-    (side_small x.p.now x.k x.a _ _ c.loop-i.invariant (omega arith), omega (arith, c.upper_end.ensures.1))
-
-pub loop-i-preserved : goal.loop-i-preserved
-loop-i-preserved c = let x = c.args in
-    product_next x.p.now x.k x.a _ _ c.loop-i.invariant c.requires.0 (omega arith) _ (omega (arith, c.upper_end.ensures.0, c.upper_end.ensures.1))
-    (rw (c.upper_end.ensures.0, c.lower_end-x.ensures.0) at c.times-v.ensures)
+pub loop-low-preserved : goal.loop-low-preserved
+loop-low-preserved c =
+    let s = c.region.inside in
+    let t = zip_turn s.low.now s.high.now c.loop-low.yielded c.into_iter-low-iterator.result c.loop-low.low-iterator c.next.new.self _ (cc) (cc) c.loop-low.yielded_by _ c.in-Some.is c.next.ensures.steps in
+    (search rules, tt, rw (length_push c.loop-low.yielded (c.in-Some.low, c.in-Some.high), ← c.region.view_is) (product_turn s.low.now s.high.now _ _ _ (rw (← c.region.view_is) at c.loop-low.invariant.2) t.0 t.1 (omega (arith, c.from-keys.ensures, c.saturating_sub.ensures, t.2 0, t.3 0)) (omega (arith, c.from-keys.ensures))))
 
 pub returns : goal.returns
-returns c = let x = c.args in
-    product_end x.p.now x.k x.a _ _ c.loop-i.invariant (omega arith)
+returns c =
+    let s = c.region.inside in
+    let t = zip_end s.low.now s.high.now c.loop-low.yielded c.into_iter-low-iterator.result c.loop-low.low-iterator c.next.new.self _ (cc) (cc) c.loop-low.yielded_by c.in-None.is c.next.ensures.steps in
+    product_end _ _ _ c.loop-low.invariant.2 (omega (arith, t, long s.low.now s.high.now c.region.invariant, ap length c.region.view_is, c.region.invariant))

@@ -1,11 +1,10 @@
--- `cover::volume`, its loop: the product of the sides, which for at most four does not pass two words.
-use Prim.Native.Nat.{◌-◌}
-use Rattle.words.specs.Words.{region_at}
-use Rattle.cover.specs.Volume.{Sides}
+-- `cover::volume`, its loop: the product of the sides so far.
+use Rattle.std.proofs.Common.{length}
+use Rattle.cover.proofs.Sides.{Product}
 use Rattle.cover.proofs.volume.Given as goal
 
-abbrev pub invariant-loop-i : goal.invariant-loop-i
-invariant-loop-i l = Sides (region_at l.k l.p l.a) l.v l.i
-
-abbrev pub decreases-loop-i : goal.decreases-loop-i
-decreases-loop-i l = l.k - l.i
+abbrev pub invariant-loop-low : goal.invariant-loop-low
+invariant-loop-low l =
+    (goal.iterator-loop-low).can_next l.low-iterator ×
+    (goal.iterator-loop-low).is_finite l.low-iterator ×
+    Product l.region l.keys (length l.yielded)

@@ -1,9 +1,10 @@
--- `pages::distinct`, its loop: from the last point to the first, with a mark for each first key met.
-use Rattle.pages.proofs.Bits.{Done}
+-- `pages::distinct`, its loop: the points that were met differ and have their marks.
+use Rattle.std.proofs.Common.{length}
+use Rattle.pages.proofs.Bits.{At}
 use Rattle.pages.proofs.distinct.Given as goal
 
-abbrev pub invariant-loop-e : goal.invariant-loop-e
-invariant-loop-e l = Done l.p l.k l.at l.count l.marks l.a l.e
+abbrev pub invariant-loop-point : goal.invariant-loop-point
+invariant-loop-point l = At l.k l.points l.rest l.marks
 
-abbrev pub decreases-loop-e : goal.decreases-loop-e
-decreases-loop-e l = l.e
+abbrev pub decreases-loop-point : goal.decreases-loop-point
+decreases-loop-point l = length l.rest

@@ -1,17 +1,12 @@
--- `words::all_finite` meets its contract: word by word, and out at the first that is ∞.
-use Rattle.words.proofs.Laws.{finite_end, finite_stop, finite_next}
-use mathlib.Core.Path.{refl}
-use native.Mathlib.Omega.{arith}
+-- `words::all_finite` meets its contract: the chain's test is the definition's.
+use Rattle.std.proofs.Common.{◌∙◌, rules, tests, ltb}
+use Rattle.std.proofs.lemmas.Iterator.{YieldsList-from_slice}
+use Rattle.std.proofs.lemmas.Iterator.Search.{all_from_yields_List}
+use Rattle.kdb.specs.Box.{∞}
+use Rattle.words.proofs.Chains.{all_every}
 use Rattle.words.proofs.all_finite.Goals as goal
 
-pub loop-i-init : goal.loop-i-init
-loop-i-init c = refl
-
-pub returns-then-read-eq4294967295 : goal.returns-then-read-eq4294967295
-returns-then-read-eq4294967295 c = finite_stop c.args.x.now c.loop-i.i _ c.loop-i.invariant (omega arith) (omega arith)
-
-pub loop-i-preserved : goal.loop-i-preserved
-loop-i-preserved c = finite_next c.args.x.now c.loop-i.i _ c.loop-i.invariant (omega arith) (omega arith)
-
 pub returns : goal.returns
-returns c = finite_end c.args.x.now c.loop-i.i _ c.loop-i.invariant (omega arith)
+returns c =
+    all_from_yields_List (λ x. ltb x ∞) _ _ _ c.all.ensures.ran (YieldsList-from_slice c.args.words.now cc) (λ x b q k. search (rules, tests))
+    ∙ all_every (λ x. ltb x ∞) c.args.words.now

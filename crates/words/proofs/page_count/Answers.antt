@@ -2,10 +2,10 @@
 use Rattle.kdb.specs.Pool.{good_length}
 use Rattle.words.proofs.page_count.Goals as goal
 
-pub returns-then-len : goal.returns-then-len
+pub returns-then-words-n : goal.returns-then-words-n
 unfolding good_length
-returns-then-len c = rw c.if-len.true
+returns-then-words-n c = rw c.if-words-n.true
 
-pub returns-else-len : goal.returns-else-len
+pub returns-else-words-n : goal.returns-else-words-n
 unfolding good_length
-returns-else-len c = rw c.if-len.false
+returns-else-words-n c = rw c.if-words-n.false

@@ -1,14 +1,10 @@
--- `words::zeros` meets its contract: words past the end are 0.
-use Rattle.words.proofs.Loops.{zero_clamped}
-use mathlib.Core.Path.{◌∙◌}
-use mathlib.Core.Bool.{true}
-use Prim.Native.Nat.{◌-◌}
-use native.Mathlib.Omega.{arith}
+-- `words::zeros` meets its contract: what is left to test, with the flag, gives what the whole gives.
+use Rattle.words.proofs.Loops.{all_next, zero_end}
+use Rattle.std.proofs.Common.{sym, ◌∙◌, arith}
 use Rattle.words.proofs.zeros.Goals as goal
 
-pub zeros_in-requires : goal.zeros_in-requires
-zeros_in-requires c = omega (arith, c.smaller.ensures)
+pub loop-i-preserved : goal.loop-i-preserved
+loop-i-preserved c = all_next _ _ _ _ _ _ _ c.loop-i.invariant (omega (arith, c.min-i-end.ensures, c.loop-i-test.true))
 
 pub returns : goal.returns
-returns c = let a = c.args in
-    c.zeros_in.ensures ∙ zero_clamped a.pool.now a.to (c.smaller.result - a.from) a.from true (rw c.smaller.ensures)
+returns c = sym (zero_end c.args.words.now c.args.to c.loop-i.i c.loop-i.ok (omega (arith, c.min-i-end.ensures, c.loop-i-test.false))) ∙ c.loop-i.invariant
