@@ -80,6 +80,6 @@ pub fn no_frame(sink: &mut Sink)
     requires { sink.old.at + 531 ≤ 2 ^ 63 }
     ensures { Puts sink.old (70 ∷ 70 ∷ 10 ∷ []) sink.new }
 {
-    sink.put_hex(2, 255);
+    sink.put_hex(2, 0xFF);
     sink.put(b'\n');
 }

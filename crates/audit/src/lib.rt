@@ -70,15 +70,14 @@ fn walk(pool: &Pool, met: &mut [bool]) -> Option<usize>
     requires { pages_in L pool.now ≤ length met.old }
     ensures { (result, met.new) ≡ root_walk L pool.now met.old }
 {
-    let words = pool.words;
-    let left = words[4] as usize;
-    let levels = words[3] as usize;
+    let left = pool.count();
+    let levels = pool.levels();
     if levels == 0 {
         return Some(left);
     }
     let k = pool.domains();
     let whole = Sides::region(&WHOLE, k, 4 - k);
-    page(pool, levels, words[2] as usize, &whole, met, left)
+    page(pool, levels, pool.root(), &whole, met, left)
 }
 
 // Every page behind the header that was not met is all zero.

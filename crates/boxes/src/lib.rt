@@ -1,14 +1,14 @@
 #![tactic(auto)]
 
 // Regions and windows: their lower and their upper ends, and the tests of keys, regions and windows, domain by domain.
-ghost use Rattle.std.specs.Prelude.{◌≡◌, ◌*◌, length};
+ghost use Rattle.std.specs.Prelude.{◌≡◌, ◌*◌, ◌≤◌, length};
 ghost use Rattle.kdb.specs.Box.{Box, sides, within, in_window, meets};
 ghost use Rattle.kdb.specs.Calls.{window_of, ordered};
 ghost use Rattle.words.specs.Words.{region_at, RegionIn};
 
 use std::marker::Model;
 
-// The ends of a region or of a window, one of each for a domain.
+// The ends of a region or of a window, one of each for each of at most four domains.
 #[derive(Drop)]
 pub struct Sides<'a> {
     pub low: &'a [u32],
@@ -20,7 +20,7 @@ impl<'a> Model for Sides<'a> {
 
     ghost view = { λ s. sides s.low.now s.high.now };
 
-    ghost invariant = { λ s. length s.low.now ≡ length s.high.now };
+    ghost invariant = { λ s. (length s.low.now ≡ length s.high.now) × (length s.low.now ≤ 4) };
 }
 
 impl<'a> Sides<'a> {
@@ -37,7 +37,8 @@ impl<'a> Sides<'a> {
 
     // The window of k lower and k upper ends.
     pub fn window(ends: &'a [u32], k: usize) -> Sides<'a>
-        requires { length ends.now ≡ 2 * k }
+        requires ends { length ends.now ≡ 2 * k }
+        requires few { k ≤ 4 }
         ensures { (result ≡ window_of k ends.now) × (length result ≡ k) }
     {
         Sides {
@@ -46,7 +47,7 @@ impl<'a> Sides<'a> {
         }
     }
 
-    // The region holds the point: lower ≤ key < upper in each domain. Here and below no domain decides a branch.
+    // The region holds the point: lower ≤ key < upper in each domain. Here and in the next two no domain decides a branch.
     pub fn holds(&self, point: &[u32]) -> bool
         requires { length point.now ≡ length self.now }
         ensures { result ≡ within self.now point.now }

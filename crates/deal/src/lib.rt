@@ -2,7 +2,7 @@
 
 // Dealing out a page along a cut: a page is claimed, and the entries go from a copy of the page to the two sides, each behind the last one
 // there; an entry that crosses goes to both, as halves.
-ghost use Rattle.std.specs.Prelude.{◌&&◌, ◌≡◌, ◌+◌, ◌*◌, ◌≤◌, ◌<◌, ◌^◌, IfOk, ltb, length, take, drop, get_or, set};
+ghost use Rattle.std.specs.Prelude.{◌&&◌, ◌≡◌, ◌+◌, ◌*◌, ◌≤◌, ◌<◌, ◌^◌, IfOk, ltb, length, take, drop, get_or, set, replicate};
 ghost use Rattle.std.proofs.lemmas.List.Edits.{sets};
 ghost use Rattle.kdb.specs.Calls.{L};
 ghost use Rattle.kdb.specs.declared.Refusal.TheVariants.{NoFreePage};
@@ -16,7 +16,7 @@ use cut::Cut;
 use kdb::{Form, Refusal};
 use words::{Kind, clear, get, lowest_free, put, word};
 
-// A page is wanting.
+// A page is wanting: none is free, a page counts too many, its entries offer no cut, or none of them holds the point.
 #[derive(Clone, Copy, Debug, PartialEq, Eq)]
 pub struct Wanting;
 
@@ -147,7 +147,8 @@ pub fn crosses(entry: &[u32], k: usize, cut: Cut) -> bool
 #[tactic(auto, using(crate::proofs::Laws::half_is))]
 pub fn half(k: usize, entry: &[u32], i: usize, x: u32, q: usize) -> [u32; 9]
     requires { (k ≤ 4) × ((length entry.now ≤ 2 * k + 1) × (q < 2 ^ 32)) }
-    ensures { take (length entry.now) result ≡ half_in k entry.now i x q }
+    ensures words { result ≡ set (set (sets (replicate 9 0) 0 entry.now) i x) (2 * k) q }
+    ensures half { take (length entry.now) result ≡ half_in k entry.now i x q }
 {
     let mut words = [0u32; 9];
     store(&mut words, 0, entry);

@@ -12,7 +12,7 @@ use query::{check, find, list};
 
 // A remove's number and location. In each of these a field behind the number is 0 after a refusal.
 #[repr(C)]
-#[derive(Clone, Copy, Default)]
+#[derive(Clone, Copy, Debug, Default, PartialEq, Eq)]
 pub struct Removal {
     pub number: u32,
     pub location: u32,
@@ -20,7 +20,7 @@ pub struct Removal {
 
 // A find's number, location and pages read.
 #[repr(C)]
-#[derive(Clone, Copy, Default)]
+#[derive(Clone, Copy, Debug, Default, PartialEq, Eq)]
 pub struct Finding {
     pub number: u32,
     pub location: u32,
@@ -29,7 +29,7 @@ pub struct Finding {
 
 // A list's number, total and pages read.
 #[repr(C)]
-#[derive(Clone, Copy, Default)]
+#[derive(Clone, Copy, Debug, Default, PartialEq, Eq)]
 pub struct Listing {
     pub number: u32,
     pub total: u32,

@@ -13,6 +13,15 @@ use answers::no_frame;
 use replies::Store;
 use text::{Sink, decode};
 
+// The words of the longest pool.
+const WORDS: usize = 16384;
+
+// The characters of the longest line.
+const LINE: usize = 128;
+
+// The bytes of the longest answer.
+const ANSWER: usize = 531;
+
 // The answer to a line of characters.
 fn line_answer(line: &[u8], store: &mut Store, sink: &mut Sink)
     requires { sink.old.at + 531 ≤ 2 ^ 63 }
@@ -22,7 +31,7 @@ fn line_answer(line: &[u8], store: &mut Store, sink: &mut Sink)
     if line.is_empty() {
         return;
     }
-    if 128 < line.len() {
+    if LINE < line.len() {
         return no_frame(sink);
     }
     let mut bytes = [0u8; 64];
@@ -62,10 +71,10 @@ impl Line<'_> {
         ensures digits { self.new.digits ≡ min self.old.digits 128 + 1 }
         ensures same { self.new.bytes.ghost_name ≡ self.old.bytes.ghost_name }
     {
-        if self.digits < 128 {
+        if self.digits < LINE {
             self.bytes[self.digits] = b;
         }
-        self.digits = self.digits.min(128) + 1;
+        self.digits = self.digits.min(LINE) + 1;
     }
 
     // The characters; none for a line that is too long.
@@ -94,7 +103,7 @@ impl Line<'_> {
         ensures { Feeds self.old store.old sink.old piece.now self.new store.new sink.new result }
     {
         for (i, b) in piece.iter().enumerate() {
-            if sink.out.len() - sink.at < 531 {
+            if sink.out.len() - sink.at < ANSWER {
                 return i;
             }
             self.step(*b, store, sink);
@@ -104,21 +113,21 @@ impl Line<'_> {
 }
 
 // The pool's words after a line, and the place in the output that follows its answer.
-#[derive(Clone, Copy)]
+#[derive(Clone, Copy, Debug, PartialEq, Eq)]
 pub struct Said {
     pub words: usize,
     pub at: usize,
 }
 
 // What is kept between two pieces besides the buffers: the pool's words, and the characters of the line so far.
-#[derive(Clone, Copy)]
+#[derive(Clone, Copy, Debug, PartialEq, Eq)]
 pub struct Held {
     pub words: usize,
     pub digits: usize,
 }
 
 // What is kept after a piece, how many of its bytes were taken, and how many bytes were written.
-#[derive(Clone, Copy)]
+#[derive(Clone, Copy, Debug, PartialEq, Eq)]
 pub struct Taken {
     pub held: Held,
     pub taken: usize,
@@ -129,15 +138,15 @@ pub struct Taken {
 fn say(
     line: Option<&[u8]>,
     words: usize,
-    pool: &mut [u32; 16384],
-    work: &mut [u32; 16384],
+    pool: &mut [u32; WORDS],
+    work: &mut [u32; WORDS],
     out: &mut [u8],
 ) -> Said
     ensures { Replied (closed (record { pool = take words pool.old; line = shown line.entry }))
         pool.old out.old 0 pool.new out.new result.words result.at
         × (work.new ≡ work_after (take words pool.old) work.old (asked (shown line.entry))) }
 {
-    let words = words.min(16384);
+    let words = words.min(WORDS);
     let mut store = Store { pool, work, words };
     let mut sink = Sink { out, at: 0 };
     close(line, &mut store, &mut sink);
@@ -151,9 +160,9 @@ fn say(
 pub fn answer(
     line: &[u8],
     words: usize,
-    pool: &mut [u32; 16384],
-    work: &mut [u32; 16384],
-    out: &mut [u8; 531],
+    pool: &mut [u32; WORDS],
+    work: &mut [u32; WORDS],
+    out: &mut [u8; ANSWER],
 ) -> Said
     ensures { Replied (reply (take words pool.old) line.now)
         pool.old out.old 0 pool.new out.new result.words result.at
@@ -166,15 +175,15 @@ pub fn answer(
 pub fn feed(
     piece: &[u8],
     from: Held,
-    line: &mut [u8; 128],
-    pool: &mut [u32; 16384],
-    work: &mut [u32; 16384],
+    line: &mut [u8; LINE],
+    pool: &mut [u32; WORDS],
+    work: &mut [u32; WORDS],
     out: &mut [u8],
 ) -> Taken
     ensures { Fed (store_of (min from.words 16384) from.digits line.old pool.old work.old) piece.now out.old
         (store_of result.held.words result.held.digits line.new pool.new work.new) out.new result.taken result.written }
 {
-    let words = from.words.min(16384);
+    let words = from.words.min(WORDS);
     let mut store = Store { pool, work, words };
     let mut line = Line {
         bytes: line,
@@ -195,9 +204,9 @@ pub fn feed(
 // The answer to a last line without line feed.
 pub fn finish(
     from: Held,
-    line: &[u8; 128],
-    pool: &mut [u32; 16384],
-    work: &mut [u32; 16384],
+    line: &[u8; LINE],
+    pool: &mut [u32; WORDS],
+    work: &mut [u32; WORDS],
     out: &mut [u8],
 ) -> Said
     ensures { Replied (closed (stage_of (store_of from.words from.digits line.now pool.old work.old)))

@@ -13,7 +13,7 @@ ghost use Rattle.steps.specs.Grow.{seek_in, widen_in, grow_in};
 ghost use Rattle.grow.specs.Grown.{grown_as, kind_at, Real, break_at, settle_at};
 
 use boxes::Sides;
-use cut::{Cut, choose};
+use cut::{Cut, Overfull};
 use deal::{Wanting, append, half, part, store};
 use kdb::Form;
 use split::part_entries;
@@ -32,11 +32,7 @@ fn holds(pool: &[u32], k: usize, a: usize, point: &[u32]) -> bool
     requires { (1 ≤ k) × ((k ≤ 4) × ((a < 2 ^ 40) × (length point.now ≡ k))) }
     ensures { result ≡ within (region_at k pool.now a) point.now }
 {
-    if a + 2 * k <= pool.len() {
-        Sides::region(pool, k, a).holds(point)
-    } else {
-        false
-    }
+    a + 2 * k <= pool.len() && Sides::region(pool, k, a).holds(point)
 }
 
 // The place of the first entry of page j whose region holds the point.
@@ -94,8 +90,13 @@ fn break_page(
     ensures real { IfOk result (λ o. IfSome o (Real f)) }
 {
     let k = f.domains;
-    let wd = kind_above(below).width(k);
-    let cut = choose(src, k, wd, m, e).ok_or(Wanting)?;
+    let entries = Overfull {
+        words: src,
+        domains: k,
+        width: kind_above(below).width(k),
+        count: m,
+    };
+    let cut = entries.choose(e).ok_or(Wanting)?;
     let page = part_entries(pool, f, cut, below, src, m, (cut.domain + 1) % k, j)?;
     Ok(Some(Broken { cut, page }))
 }
@@ -129,33 +130,38 @@ fn settle(
     break_page(pool, f, below, &over[..32 + wd], m + 1, e, j)
 }
 
-// A record's words: the point's keys, then the location.
-#[tactic(auto, using(crate::proofs::Laws::record_is))]
-pub fn record(point: &[u32], location: u32) -> [u32; 5]
-    requires { length point.now ≤ 4 }
-    ensures { take (length point.now + 1) result ≡ point.now ++ (location ∷ []) }
-{
-    let mut words = [0u32; 5];
-    store(&mut words, 0, point);
-    put(&mut words, point.len(), location as usize);
-    words
+// A point with its location, for a pool of that form.
+#[derive(Drop)]
+pub struct Record<'a> {
+    pub form: Form,
+    pub point: &'a [u32],
+    pub location: u32,
+    ghost whole: { length point.now ≡ form.domains },
 }
 
-// Point page j takes the point.
+impl Record<'_> {
+    // Its words: the point's keys, then the location.
+    #[tactic(auto, using(crate::proofs::Laws::record_is))]
+    pub fn words(&self) -> [u32; 5]
+        requires { self.now.form.domains ≤ 4 }
+        ensures { take (self.now.form.domains + 1) result ≡ self.now.point.now ++ (self.now.location ∷ []) }
+    {
+        let mut words = [0u32; 5];
+        store(&mut words, 0, self.point);
+        put(&mut words, self.point.len(), self.location as usize);
+        words
+    }
+}
+
+// Point page j takes the record.
 #[tactic(auto, using(crate::proofs::Laws::grow_point))]
-fn grow_points(
-    pool: &mut [u32],
-    f: Form,
-    j: usize,
-    point: &[u32],
-    location: u32,
-) -> Result<Option<Broken>, Wanting>
-    requires { Formed pool.old f × ((length point.now ≡ f.domains) × (j < 2 ^ 32)) }
-    ensures words { grown_as result pool.new ≡ grow_in L f.pages f.domains (regions_per L f.domains) (points_per L f.domains) point.now location 0 j pool.old }
-    ensures real { IfOk result (λ o. IfSome o (Real f)) }
+fn grow_points(pool: &mut [u32], added: &Record, j: usize) -> Result<Option<Broken>, Wanting>
+    requires { Formed pool.old added.now.form × (j < 2 ^ 32) }
+    ensures words { grown_as result pool.new ≡ grow_in L added.now.form.pages added.now.form.domains (regions_per L added.now.form.domains) (points_per L added.now.form.domains) added.now.point.now added.now.location 0 j pool.old }
+    ensures real { IfOk result (λ o. IfSome o (Real added.now.form)) }
 {
-    let words = record(point, location);
-    settle(pool, f, None, &words[..point.len() + 1], j)
+    let f = added.form;
+    settle(pool, f, None, &added.words()[..f.domains + 1], j)
 }
 
 // Region page j, whose child in the entry at word a broke, takes both halves.
@@ -181,26 +187,25 @@ fn widen(
     settle(pool, f, Some(level), &right[..n], j)
 }
 
-// Page j, `level` levels above the point pages, takes the point with its location: with room, or broken.
+// Page j, `level` levels above the point pages, takes the record: with room, or broken.
 #[tactic(auto, using(crate::proofs::Laws::grow_short, crate::proofs::Laws::grow_wider))]
 pub fn grow(
     pool: &mut [u32],
-    f: Form,
+    added: &Record,
     level: usize,
     j: usize,
-    point: &[u32],
-    location: u32,
 ) -> Result<Option<Broken>, Wanting>
-    requires { Formed pool.old f × ((length point.now ≡ f.domains) × (j < 2 ^ 32)) }
-    ensures words { grown_as result pool.new ≡ grow_in L f.pages f.domains (regions_per L f.domains) (points_per L f.domains) point.now location level j pool.old }
-    ensures real { IfOk result (λ o. IfSome o (Real f)) }
+    requires { Formed pool.old added.now.form × (j < 2 ^ 32) }
+    ensures words { grown_as result pool.new ≡ grow_in L added.now.form.pages added.now.form.domains (regions_per L added.now.form.domains) (points_per L added.now.form.domains) added.now.point.now added.now.location level j pool.old }
+    ensures real { IfOk result (λ o. IfSome o (Real added.now.form)) }
 {
+    let f = added.form;
     let Some(below) = level.checked_sub(1) else {
-        return grow_points(pool, f, j, point, location);
+        return grow_points(pool, added, j);
     };
-    let a = seek(pool, f, point, j).ok_or(Wanting)?;
+    let a = seek(pool, f, added.point, j).ok_or(Wanting)?;
     let q = get(pool, a + 2 * f.domains);
-    match grow(pool, f, below, q, point, location)? {
+    match grow(pool, added, below, q)? {
         None => Ok(None),
         Some(child) => widen(pool, f, below, child, a, j),
     }

@@ -18,9 +18,7 @@ use words::{form_of, page_count};
 pub fn format(pool: &mut [u32], k: usize) -> Result<(), Refusal>
     ensures { Promise pool.old (format k) (finished_as result (alone pool.new)) }
 {
-    let Some(n) = page_count(pool) else {
-        return Err(Refusal::PoolLength);
-    };
+    let n = page_count(pool).ok_or(Refusal::PoolLength)?;
     if !(1..=4).contains(&k) {
         return Err(Refusal::Domains);
     }

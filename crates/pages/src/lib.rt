@@ -30,7 +30,6 @@ fn side_holds(points: &[u32], k: usize, d: usize, low: u32, high: u32) -> bool
 
 // The points lie in the region.
 fn all_hold(points: &[u32], region: &Sides) -> bool
-    requires { length region.now ≤ 4 }
     ensures { result ≡ every (λ x. within region.now x.key) (recs_of (length region.now) points.now) }
 {
     let k = region.low.len();
@@ -49,7 +48,7 @@ fn differs(keys: &[u32], points: &[u32]) -> bool
 }
 
 // No two of the points have the same keys: with a mark for the last seven bits of each first key that was met, so that most are not held
-// against any other.
+// against any other. Points are split off one by one for speed: numbered chunks take more instructions.
 fn distinct(points: &[u32], k: usize) -> bool
     requires { (1 ≤ k) × (k ≤ 4) }
     ensures { result ≡ differ (recs_of k points.now) }

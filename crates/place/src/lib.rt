@@ -13,7 +13,7 @@ ghost use Rattle.steps.specs.Remove.{down_in, remove_in};
 ghost use Rattle.place.specs.Steps.{header_of, Topping, steps_in};
 
 use deal::{Wanting, append, append_half, claim};
-use grow::{Broken, grow, record};
+use grow::{Broken, Record, grow};
 use kdb::Form;
 use words::{Kind, WHOLE, clear, get, put, word};
 
@@ -72,13 +72,13 @@ fn new_root(pool: &mut [u32], f: Form, broken: Broken, before: Header) -> Result
 
 // The first point claims a point page.
 #[tactic(auto, using(crate::proofs::Laws::first_none, crate::proofs::Laws::first_some))]
-fn first_point(pool: &mut [u32], f: Form, point: &[u32], location: u32) -> Result<(), Wanting>
-    requires { Formed pool.old f × (length point.now ≡ f.domains) }
-    ensures { passed result pool.new ≡ first_in L f.pages f.domains point.now location pool.old }
+fn first_point(pool: &mut [u32], added: &Record) -> Result<(), Wanting>
+    requires { Formed pool.old added.now.form }
+    ensures { passed result pool.new ≡ first_in L added.now.form.pages added.now.form.domains added.now.point.now added.now.location pool.old }
 {
+    let f = added.form;
     let root = claim(pool, f, Kind::Point, 0)?;
-    let words = record(point, location);
-    append(pool, f.domains + 1, root, &words[..point.len() + 1]);
+    append(pool, f.domains + 1, root, &added.words()[..f.domains + 1]);
     let header = Header {
         root,
         levels: 1,
@@ -90,16 +90,16 @@ fn first_point(pool: &mut [u32], f: Form, point: &[u32], location: u32) -> Resul
 
 // The steps of placing; where a page is wanting they are left half-way.
 #[tactic(auto, using(crate::proofs::Laws::steps_first, crate::proofs::Laws::steps_short, crate::proofs::Laws::steps_fine, crate::proofs::Laws::steps_broke))]
-fn place_steps(pool: &mut [u32], f: Form, point: &[u32], location: u32) -> Result<(), Wanting>
-    requires { Formed pool.old f × (Topping (root_at pool.old) (levels_at pool.old) (count_at pool.old) × (length point.now ≡ f.domains)) }
-    ensures { passed result pool.new ≡ steps_in f.pages f.domains point.now location pool.old }
+fn place_steps(pool: &mut [u32], added: &Record) -> Result<(), Wanting>
+    requires { Formed pool.old added.now.form × Topping (root_at pool.old) (levels_at pool.old) (count_at pool.old) }
+    ensures { passed result pool.new ≡ steps_in added.now.form.pages added.now.form.domains added.now.point.now added.now.location pool.old }
 {
     let before = Header::read(pool);
     let Some(level) = before.levels.checked_sub(1) else {
-        return first_point(pool, f, point, location);
+        return first_point(pool, added);
     };
-    match grow(pool, f, level, before.root, point, location)? {
-        Some(broken) => new_root(pool, f, broken, before),
+    match grow(pool, added, level, before.root)? {
+        Some(broken) => new_root(pool, added.form, broken, before),
         None => {
             let count = before.count + 1;
             let header = Header { count, ..before };
@@ -123,7 +123,12 @@ pub fn place_in(
     ensures { (passed result pool.new ≡ place_in L point.now location pool.old) × (work.new ≡ pool.old) }
 {
     work.copy_from_slice(pool);
-    let placed = place_steps(pool, f, point, location);
+    let added = Record {
+        form: f,
+        point,
+        location,
+    };
+    let placed = place_steps(pool, &added);
     if placed.is_err() {
         pool.copy_from_slice(work);
     }

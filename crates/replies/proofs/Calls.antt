@@ -19,7 +19,9 @@ use Rattle.kdb.proofs.Tests.{and_false, cases, cond_case}
 use Rattle.kdb.proofs.Lawful.{refusal_keeps}
 use Rattle.kdb.proofs.Frames.{format_length, place_work}
 use Rattle.std.proofs.Common.{Result, Ok, Err, is_ok}
+use Rattle.std.specs.Result.{MatchResult}
 use Rattle.opening.specs.Opens.{answer_as, finished_as}
+use Rattle.query.specs.declared.Listed.{Listed}
 use Rattle.replies.proofs.Replies.{laid, laid_same, take_least}
 use Rattle.text.specs.Text.{Written}
 use Rattle.text.specs.declared.Sink.{Sink}
@@ -66,12 +68,12 @@ module _ {A : Type 0} (vs : A → List ℕ) (r : Result A Refusal) (s : Store) {
       call_replies b p [] e (l ∙ laid s.words s.pool.now b.pool k) (w ∙ sym (k ∙ length-take-le s.words s.pool.now (omega (arith, s.pool_long, s.within)))) (ap (take _) n ∙ take-nil _) t room x y
 
 -- a format's frame of 3 bytes
-pub new_three : (bytes : List ℕ) → length bytes ≡ 3 → new_of bytes ≡ new (get_or bytes 0 0) (256 * get_or bytes 1 0 + get_or bytes 2 0)
-new_three [] h = absurd (omega arith)
-new_three (k ∷ []) h = absurd (omega arith)
-new_three (k ∷ a ∷ []) h = absurd (omega arith)
-new_three (k ∷ a ∷ b ∷ []) h = refl
-new_three (k ∷ a ∷ b ∷ c ∷ bytes) h = absurd (omega arith)
+pub new_three : (bytes : List ℕ) (k n : ℕ) → length bytes ≡ 3 → k ≡ get_or bytes 0 0 → n ≡ 256 * get_or bytes 1 0 + get_or bytes 2 0 → new_of bytes ≡ new k n
+new_three [] k n h e f = absurd (omega arith)
+new_three (x ∷ []) k n h e f = absurd (omega arith)
+new_three (x ∷ a ∷ []) k n h e f = absurd (omega arith)
+new_three (x ∷ a ∷ b ∷ []) k n h e f = rw (e, f)
+new_three (x ∷ a ∷ b ∷ c ∷ bytes) k n h e f = absurd (omega arith)
 
 -- more than 512 pages are refused
 big : (k n : ℕ) (v : List ℕ) → length v ≡ L * n → 512 < n → outcome v (format k) ≡ refuses PoolLength (lent v (format k))
@@ -181,6 +183,12 @@ place_none (x ∷ ws) h = absurd (omega arith)
 -- the locations that fit the slots
 pub shown_locations : (n : ℕ) (full : List ℕ) → length full ≡ 64 → take n full ≡ take (min n 64) full
 shown_locations n full e = take_least n full ∙ ap (λ m. take (min n m) full) e
+
+-- those of a list that is done; none after a refusal
+pub shown_values : (n : ℕ) (full : List ℕ) → length full ≡ 64 → (r : Result Listed Refusal) → MatchResult r (λ (l : Listed). n ≡ min l.total 64) (λ (e : Refusal). n ≡ 0)
+    → take (get_or (values_in (λ (l : Listed). l.total ∷ l.reads ∷ []) r) 0 0) full ≡ take n full
+shown_values n full h (Ok l) e = rw e (shown_locations l.total full h)
+shown_values n full h (Err x) e = rw e
 
 -- place leaves in the work buffer what its outcome says; no other frame has one
 pub place_worked : (f : Result (Unit {0}) Refusal) (words : ℕ) (pool part work after p : List ℕ) (l : ℕ) → Promise (take words pool) (place (take words work) p l) (finished_as f (working after part)) → length after ≡ length (take words work)

@@ -34,12 +34,12 @@ impl Store<'_> {
         let [k, high, low] = bytes else {
             return no_frame(sink);
         };
-        let n = 256 * (*high as usize) + *low as usize;
+        let n = usize::from(u16::from_be_bytes([*high, *low]));
         if 512 < n {
             return put_answer(sink, &Err::<(), Refusal>(Refusal::PoolLength), &[]);
         }
         let size = 32 * n;
-        let formatted = format(&mut self.pool[..size], *k as usize);
+        let formatted = format(&mut self.pool[..size], usize::from(*k));
         put_answer(sink, &formatted, &[]);
         if formatted.is_ok() {
             self.words = size;
@@ -87,10 +87,7 @@ impl Store<'_> {
     {
         let mut slots = [0u32; 64];
         let listed = list(&self.pool[..self.words], window, &mut slots);
-        let shown = match &listed {
-            Ok(l) => l.total.min(64),
-            Err(_) => 0,
-        };
+        let shown = listed.map_or(0, |l| l.total.min(64));
         put_answer(sink, &listed, &slots[..shown]);
     }
 
@@ -107,7 +104,8 @@ impl Store<'_> {
             1 => self.place_frame(words, sink),
             2 => self.remove_frame(words, sink),
             3 => self.find_frame(words, sink),
-            _ => self.list_frame(words, sink),
+            4 => self.list_frame(words, sink),
+            _ => no_frame(sink),
         }
     }
 

@@ -28,8 +28,8 @@ fn pair_value(high: u8, low: u8) -> Option<u8>
 }
 
 // The bytes of a line of digits; none for an odd number of digits or another character.
-pub fn decode<'a>(line: &[u8], bytes: &'a mut [u8]) -> Option<&'a [u8]>
-    requires { (length line.now ≤ 128) × (length bytes.old ≡ 64) }
+pub fn decode<'a>(line: &[u8], bytes: &'a mut [u8; 64]) -> Option<&'a [u8]>
+    requires { length line.now ≤ 128 }
     ensures bytes { shown result ≡ bytes_of line.now }
     ensures few { IfSome result (λ s. length s.now ≤ 64) }
 {
@@ -44,8 +44,8 @@ pub fn decode<'a>(line: &[u8], bytes: &'a mut [u8]) -> Option<&'a [u8]>
 }
 
 // The words of the bytes, 4 each, high byte first; none for a part word.
-pub fn words_of<'a>(bytes: &[u8], words: &'a mut [u32]) -> Option<&'a [u32]>
-    requires { (length bytes.now ≤ 63) × (length words.old ≡ 16) }
+pub fn words_of<'a>(bytes: &[u8], words: &'a mut [u32; 16]) -> Option<&'a [u32]>
+    requires { length bytes.now ≤ 63 }
     ensures words { shown result ≡ words_of bytes.now }
     ensures few { IfSome result (λ s. length s.now ≤ 16) }
 {
@@ -64,7 +64,11 @@ fn digit_of(v: usize) -> u8
     requires { v < 16 }
     ensures { result ≡ digit_of v }
 {
-    if v < 10 { v as u8 + 48 } else { v as u8 + 55 }
+    if v < 10 {
+        b'0' + v as u8
+    } else {
+        b'A' + (v as u8 - 10)
+    }
 }
 
 // Where an answer is written: a buffer, and the place of the next byte. Past the buffer's end the place moves on, and nothing is written.

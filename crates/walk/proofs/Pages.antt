@@ -1,8 +1,8 @@
 -- What a walk's tests of a page's words tell of the page's view.
 use mathlib.Core.Bool.{true}
-use mathlib.Core.List.{List, [], ◌∷◌}
+use mathlib.Core.List.{List, ◌∷◌}
 use mathlib.Core.Path.{◌≡◌, sym, ◌∙◌}
-use Prim.Native.Nat.{ℕ, suc, ◌+◌, ◌-◌, ◌*◌, ◌<◌, ◌≤◌}
+use Prim.Native.Nat.{ℕ, suc, ◌+◌, ◌*◌, ◌<◌, ◌≤◌}
 use native.Mathlib.Omega.{arith}
 use native.Mathlib.Nat.{suc-mul, zero-mul, sub-zero, mul-le-mul_left}
 use lib.ListN.{drop, get_or}
@@ -22,9 +22,6 @@ module _ (k : ℕ) (w : List ℕ) (j c e : ℕ) where
       let s : e + 1 ≡ suc e = omega arith in
       let r : entry_place k j e + (2 * k + 1) ≡ entry_place k j (e + 1) = rw s (omega (arith, suc-mul e (2 * k + 1))) in
       rw r at (ent_turn k c e w (entry_place k j e) h)
-
-  pub entries_end : c ≤ e → entries_from k w j c e ≡ []
-  entries_end h = let q : c - e ≡ 0 = omega arith in rw q
 
 -- all of them, from word 4 of the page on
 entries_all : (k : ℕ) (w : List ℕ) (j c : ℕ) → entries_from k w j c 0 ≡ read_ents k c (drop (L * j + 4) w)

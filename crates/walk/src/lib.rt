@@ -80,7 +80,7 @@ fn is_of(pool: &Pool, kind: Kind, j: usize) -> bool
 {
     let count = pool.read(32 * j + 1);
     (pool.read(32 * j) == kind as usize)
-        & (usize::from(kind == Kind::Region) <= count)
+        & ((kind == Kind::Point) | (1 <= count))
         & (count <= kind.capacity(pool.domains()))
 }
 
@@ -89,7 +89,7 @@ fn read_page(pool: &Pool, kind: Kind, j: usize, reads: usize) -> Result<usize, S
     requires { (j < 2 ^ 32) × (reads < 2 ^ 32) }
     ensures { (result ≡ reached pool.now kind j reads) × IfOk result (λ n. (n ≡ reads + 1) × Inside pool.now kind j) }
 {
-    if (j == 0) | (pool.form().pages <= j) {
+    if !(1..pool.form.pages).contains(&j) {
         return Err(Stopped { reads });
     }
     if !is_of(pool, kind, j) {
@@ -167,14 +167,13 @@ pub fn search(pool: &Pool, point: &[u32]) -> Result<Hit, Missed>
     requires { length point.now ≡ domains pool.now }
     ensures { result ≡ sought_as 0 (find_walk L pool.now point.now) }
 {
-    let root = pool.words[2] as usize;
-    let levels = pool.words[3] as usize;
+    let levels = pool.levels();
     if levels == 0 {
         return Err(Missed::NoRoot);
     }
     // The whole point: the compiler now knows its length.
     let point = &point[..pool.domains()];
-    Sought { pool, point }.descend(root, levels)
+    Sought { pool, point }.descend(pool.root(), levels)
 }
 
 // List's walk reads page j, if the bound allows one more: the state with it.
@@ -191,7 +190,8 @@ fn enter(pool: &Pool, kind: Kind, j: usize, s: Tally) -> Result<Tally, Stopped>
     })
 }
 
-// The one place where it holds, else the other: the words in both may wait.
+// The one place where it holds, else the other. A word is chosen by its place: written as an `if` between two words it became a branch, and list got
+// a third slower.
 fn either<'a>(holds: bool, one: &'a u32, other: &'a u32) -> &'a u32
     ensures { result.now ≡ cond holds one.now other.now }
 {
@@ -326,11 +326,10 @@ pub fn list_walk(pool: &Pool, window: &Sides, answer: &mut [u32]) -> Result<Tall
     requires { length window.now ≡ domains pool.now }
     ensures { seen result answer.new ≡ walked answer.old (list_walk L pool.now window.now) }
 {
-    let root = pool.words[2] as usize;
-    let levels = pool.words[3] as usize;
+    let levels = pool.levels();
     let s = Tally { reads: 0, total: 0 };
     if levels == 0 {
         return Ok(s);
     }
-    Tour { pool, window }.subtree(answer, levels, root, s)
+    Tour { pool, window }.subtree(answer, levels, pool.root(), s)
 }

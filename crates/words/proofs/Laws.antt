@@ -1,26 +1,22 @@
--- The length of a pool, its header, and stores of a whole buffer, as code finds them.
-use mathlib.Core.Bool.{Bool, true, false, ◌&&◌, beq}
+-- The length of a pool and its header, as code finds them.
+use mathlib.Core.Bool.{Bool, true, false, beq}
 use mathlib.Core.List.{List, [], ◌∷◌}
 use mathlib.Core.Path.{◌≡◌, refl, sym, ap, ◌∙◌}
-use Prim.Native.Nat.{ℕ, zero, suc, ◌+◌, ◌-◌, ◌*◌, ◌<◌, ◌≤◌}
+use Prim.Native.Nat.{ℕ, suc, ◌+◌, ◌-◌, ◌*◌, ◌<◌, ◌≤◌}
 use native.Mathlib.Omega.{arith}
-use native.Mathlib.Numerals.{add-one}
-use native.Mathlib.Nat.{zero-add, div-le_self}
+use native.Mathlib.Nat.{zero-add}
 use lib.Dec.{eqb, leb, ltb, leb-suc-suc}
-use lib.ListN.{length, drop, get_or, replicate, length-replicate, drop_of_length-le}
-use lib.Seq.{sets, drop-cons}
-use borrow.Author.Tests.{eqb-true, lt-ltb, le-ltb}
+use lib.ListN.{length, drop, get_or}
+use borrow.Author.Tests.{eqb-true}
 use Rattle.std.proofs.Common.{rules}
 use Rattle.std.specs.Prelude.{Option, Some, None, Result, Ok}
 use Rattle.std.specs.Option.{ok_or}
 use Rattle.kdb.specs.Lists.{bit, every}
 use Rattle.kdb.specs.Pages.{page}
 use Rattle.kdb.specs.Pool.{pages_in, good_length, good_header, GoodLength}
-use Rattle.kdb.specs.Calls.{L, finite}
+use Rattle.kdb.specs.Calls.{L}
 use Rattle.kdb.specs.declared.Form.{Form}
-use Rattle.kdb.specs.Box.{∞}
 use Rattle.kdb.proofs.Tests.{is_true, of_true}
-use Rattle.kdb.proofs.Stores.{sets_whole}
 use Rattle.kdb.proofs.Pool.{length_iff, header_iff}
 use Rattle.kdb.proofs.Words.{page_rest}
 use Rattle.words.specs.Words.{page_count, form_of, Formed, Fit, all_zero, capacity_of}
@@ -41,13 +37,6 @@ fit w a b =
     record { formed = record { words = g.long; least = g.least; most = g.most; some = h.least; few = h.most }; says = refl }
 
 -- what a count of pages tells
-pub count_none : (w : List ℕ) → None ≡ page_count w → good_length L w ≡ false
-count_none w e = go (good_length L w) refl
-  where
-    go : (b : Bool) → good_length L w ≡ b → good_length L w ≡ false
-    go true t = absurd (let q : None ≡ Some (pages_in L w) = e ∙ rw t in search rules)
-    go false t = t
-
 pub count_some : (w : List ℕ) (n : ℕ) → Some n ≡ page_count w → (good_length L w ≡ true) × (n ≡ pages_in L w)
 count_some w n e = go (good_length L w) refl
   where
@@ -75,25 +64,6 @@ zero_rest w g =
     every_by (eqb 0) 27 (λ i. get_or w i 0) 5 true
     ∙ ap (every (eqb 0)) (keys_by_lem 27 0 5 w (λ i. get_or w i 0) (λ d. ap (λ (i : ℕ). get_or w i 0) (sym (zero-add d))) (omega (arith, g.least)) ∙ sym (page_rest L w 0 5))
 
--- the test of the words from i on is v
-module _ (x : List ℕ) (i : ℕ) (v : Bool) (m : finite (drop i x) ≡ v) where
-  pub finite_end : length x ≤ i → true ≡ v
-  finite_end h = rw (drop_of_length-le x {i = i} h) at m
-
-  module _ (l : i < length x) where
-    turn : ltb (get_or x i 0) ∞ && finite (drop (i + 1) x) ≡ v
-    turn = rw (add-one i) (rw (drop-cons x i 0 l) at m)
-
-    pub finite_stop : ∞ ≤ get_or x i 0 → false ≡ v
-    finite_stop h = rw (le-ltb _ _ h) at turn
-
-    pub finite_next : get_or x i 0 < ∞ → finite (drop (i + 1) x) ≡ v
-    finite_next h = rw (lt-ltb _ _ h) at turn
-
--- a buffer cleared whole
-pub cleared : (x : List ℕ) → sets x 0 (replicate (length x) 0) ≡ replicate (length x) 0
-cleared x = sets_whole x (replicate (length x) 0) (length-replicate (length x) 0)
-
 -- the rule of the table: words less 4, divided by 2K + 1 or by K + 1
 abbrev table : List (List ℕ)
 table = (9 ∷ 5 ∷ 4 ∷ 3 ∷ []) ∷ (14 ∷ 9 ∷ 7 ∷ 5 ∷ []) ∷ []
@@ -102,7 +72,3 @@ pub capacities : (kind k : ℕ) → kind < 2 → 1 ≤ k → k ≤ 4 → get_or 
 capacities kind k hr hl hm =
     let e : k - 1 + 1 ≡ k = omega arith in
     eqb-true _ _ (is_true _ (at₂ 4 (λ r i x. eqb x (capacity_of r (i + 1))) table tt kind (k - 1) hr (omega arith))) ∙ ap (capacity_of kind) e
-
-pub capacity_few : (kind k : ℕ) → capacity_of kind k ≤ 28
-capacity_few zero k = div-le_self 28 (2 * k + 1)
-capacity_few (suc kind) k = div-le_self 28 (k + 1)

@@ -3,14 +3,14 @@
 // Words of a lent pool: what is read and written of a page, and nothing of the tree.
 ghost use Rattle.std.specs.Prelude.{◌≡◌, ◌+◌, ◌*◌, ◌-◌, ◌≤◌, ◌<◌, ◌^◌, ℕ, List, IfSome, length, get_or, set, replicate};
 ghost use Rattle.std.proofs.lemmas.List.Edits.{sets};
-ghost use Rattle.kdb.specs.Pool.{domains, pages_in, good_header, GoodLength};
+ghost use Rattle.kdb.specs.Pool.{domains, root_at, levels_at, count_at, pages_in, good_header, GoodLength};
 ghost use Rattle.kdb.specs.Calls.{L, finite};
 ghost use Rattle.words.specs.Words.{word_at, page_count, form_of, opened, capacity_by, width_of, keys_of, point_location, page_or, lowest, all_zero, RecordIn, Fit};
 
 use kdb::{Form, Refusal};
 use std::marker::Model;
 
-// The kind of a page, as its first word has it; a page of another kind is free.
+// The kind of a page, as its first word has it; a page with 0 there is free, and one with any other word is bad.
 #[derive(Clone, Copy, Debug, PartialEq, Eq)]
 pub enum Kind {
     Region = 1,
@@ -133,14 +133,6 @@ pub fn all_finite(words: &[u32]) -> bool
     words.iter().all(|word| *word < u32::MAX)
 }
 
-// Copies a buffer over another, as far as that goes.
-pub fn copy(to: &mut [u32], from: &[u32])
-    ensures { to.new ≡ sets to.old 0 from.now }
-{
-    let n = to.len().min(from.len());
-    to[..n].copy_from_slice(&from[..n]);
-}
-
 // Zeroes the words from `from` to `to`.
 pub fn clear(words: &mut [u32], from: usize, to: usize)
     ensures { words.new ≡ sets words.old from (replicate (to - from) 0) }
@@ -156,12 +148,11 @@ pub fn lowest_free(words: &[u32], n: usize) -> Option<usize>
     requires { (1 ≤ n) × (n < 2 ^ 32) }
     ensures { (page_or n result ≡ lowest L n words.now) × IfSome result (λ j. (1 ≤ j) × (j < n)) }
 {
-    for j in 1..n {
-        if word(words, j, 0) == 0 {
-            return Some(j);
-        }
-    }
-    None
+    (1..n).find(
+        |j|
+            requires { j.now < 2 ^ 32 }
+        { word(words, *j, 0) == 0 },
+    )
 }
 
 // A pool that is lent to be read, with its form: the words in which page and entry stand lie in it.
@@ -194,13 +185,6 @@ impl<'a> Pool<'a> {
         })
     }
 
-    // Its form.
-    pub fn form(&self) -> Form
-        ensures { (result ≡ form_of self.now) × Fit self.now result }
-    {
-        self.form
-    }
-
     // The pages, with the header.
     pub fn pages(&self) -> usize
         ensures { (result ≡ pages_in L self.now) × ((2 ≤ result) × (result ≤ 512)) }
@@ -213,6 +197,30 @@ impl<'a> Pool<'a> {
         ensures { (result ≡ domains self.now) × ((1 ≤ result) × (result ≤ 4)) }
     {
         (self.form.domains - 1).min(3) + 1
+    }
+
+    // The root's page, 0 where there is none.
+    pub fn root(&self) -> usize
+        ensures { (result ≡ root_at self.now) × (result < 2 ^ 32) }
+    {
+        let words = self.words;
+        words[2] as usize
+    }
+
+    // The levels from the root down; there is room for one page behind the header.
+    pub fn levels(&self) -> usize
+        ensures { (result ≡ levels_at self.now) × ((result < 2 ^ 32) × (2 ≤ pages_in L self.now)) }
+    {
+        let words = self.words;
+        words[3] as usize
+    }
+
+    // The points.
+    pub fn count(&self) -> usize
+        ensures { (result ≡ count_at self.now) × (result < 2 ^ 32) }
+    {
+        let words = self.words;
+        words[4] as usize
     }
 
     // The word at `at`, which is one of the pool's.

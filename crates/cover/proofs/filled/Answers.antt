@@ -17,7 +17,7 @@ pub sum-parts-requires-clause-can : goal.sum-parts-requires-clause-can
 sum-parts-requires-clause-can c =
     let k = length c.region.inside.low.now in
     let ws = c.args.entries.now in
-    let n : length c.args.region.now ≡ k = seen _ _ _ _ c.region.view_is c.region.invariant refl in (
+    let n : length c.args.region.now ≡ k = seen _ _ _ _ c.region.view_is c.region.invariant.0 refl in (
       search rules,
       serves_from_places (YieldsList-from_chunks_exact (2 * k + 1) ws (omega arith) (cc) (cc)) (λ x q r. search rules)
           (λ x i l e. let w : length x.now ≡ 2 * k + 1 = piece_of (2 * k + 1) ws i x.now l e in search rules),
@@ -28,8 +28,8 @@ sum-parts-requires-clause-fits c =
     let k = length c.region.inside.low.now in
     let ws = c.args.entries.now in
     let r = c.args.region.now in
-    let n : length c.args.region.now ≡ k = seen _ _ _ _ c.region.view_is c.region.invariant refl in
-    let m : volumes_of (regions_of k ws) ≤ volume_of r = rw (← n) (fit_volumes r (regions_of (length r) ws) (of_true _ c.requires.fit)) in
+    let n : length c.args.region.now ≡ k = seen _ _ _ _ c.region.view_is c.region.invariant.0 refl in
+    let m : volumes_of (regions_of k ws) ≤ volume_of r = rw (← n) (fit_volumes r (regions_of (length r) ws) (of_true _ c.requires)) in
     fits_by_from_yields_list (λ x. volume_of (region_at k x 0)) (pieces_of (2 * k + 1) ws) c.map.result _
     (YieldsList-from_map _ (λ x. volume_of (region_at k x 0)) (YieldsList-at c.map.ensures.source (YieldsList-from_chunks_exact (2 * k + 1) ws (omega arith) (cc) (cc))) c.map.ensures.closure (λ x y q d. search rules))
     (omega (arith, m, volume_pieces k ws, c.volume-whole.ensures))
@@ -39,9 +39,9 @@ returns c =
     let k = length c.region.inside.low.now in
     let ws = c.args.entries.now in
     let r = c.args.region.now in
-    let n : length c.args.region.now ≡ k = seen _ _ _ _ c.region.view_is c.region.invariant refl in
+    let n : length c.args.region.now ≡ k = seen _ _ _ _ c.region.view_is c.region.invariant.0 refl in
     let s : c.sum-parts.result ≡ sum_by (λ x. volume_of (region_at k x 0)) (pieces_of (2 * k + 1) ws) =
     sum_by_from_yields_List (λ x. volume_of (region_at k x 0)) (pieces_of (2 * k + 1) ws) c.map.result c.sum-parts.result c.sum-parts.ensures.ran
     (YieldsList-from_map _ (λ x. volume_of (region_at k x 0)) (YieldsList-at c.map.ensures.source (YieldsList-from_chunks_exact (2 * k + 1) ws (omega arith) (cc) (cc))) c.map.ensures.closure (λ x y q d. search rules)) in
     ap₂ nat_eq (s ∙ (volume_pieces k ws ∙ ap (λ (i : ℕ). volumes_of (regions_of i ws)) (sym n))) c.volume-whole.ensures
-    ∙ fit_tiles r (regions_of (length r) ws) c.requires.fit
+    ∙ fit_tiles r (regions_of (length r) ws) c.requires

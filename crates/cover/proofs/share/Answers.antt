@@ -11,10 +11,10 @@ pub all-requires-clause-callable : goal.all-requires-clause-callable
 all-requires-clause-callable c =
     let s = c.one in
     let v = c.other in
-    let ends : length s.inside.low.now ≡ length s.inside.high.now = s.invariant in
-    let others : length v.inside.low.now ≡ length v.inside.high.now = v.invariant in
+    let ends : length s.inside.low.now ≡ length s.inside.high.now = s.invariant.0 in
+    let others : length v.inside.low.now ≡ length v.inside.high.now = v.invariant.0 in
     let as_long : length v.inside.low.now ≡ length s.inside.low.now =
-    seen _ s.inside.low.now _ _ s.view_is s.invariant (sym (long v.inside.low.now _ v.invariant) ∙ ap length v.view_is ∙ c.requires) in
+    seen _ s.inside.low.now _ _ s.view_is s.invariant.0 (sym (long v.inside.low.now _ v.invariant.0) ∙ ap length v.view_is ∙ c.requires) in
     serves_from_Range (λ x q r. search rules) (λ x g h. search rules)
 
 pub returns : goal.returns
@@ -26,5 +26,5 @@ returns c =
     let m = v.inside.low.now in
     let n = v.inside.high.now in
     all_from_yields_List (λ d. overlap_side (side_of l u d) (side_of m n d)) c.all.new.self _ c.all.result c.all.ensures.ran (YieldsList-from_range 0 (length l) (length l) refl (omega arith)) (λ x b q k. search (rules, tests))
-    ∙ beside overlap_side l u m n s.invariant v.invariant (seen _ l u _ s.view_is s.invariant (sym (long m n v.invariant) ∙ ap length v.view_is ∙ c.requires)) 0 (length l) (omega arith)
+    ∙ beside overlap_side l u m n s.invariant.0 v.invariant.0 (seen _ l u _ s.view_is s.invariant.0 (sym (long m n v.invariant.0) ∙ ap length v.view_is ∙ c.requires)) 0 (length l) (omega arith)
     ∙ ap₂ overlap s.view_is v.view_is

@@ -10,7 +10,7 @@ pub overflow_mul-keys : goal.overflow_mul-keys
 overflow_mul-keys c =
     let s = c.region.inside in
     let t = zip_turn s.low.now s.high.now c.loop-low.yielded c.into_iter-low-iterator.result c.loop-low.low-iterator c.next.new.self _ (cc) (cc) c.loop-low.yielded_by _ c.in-Some.is c.next.ensures.steps in
-    omega (arith, product_fits _ _ _ c.from-keys.result c.loop-low.invariant.2 (omega (arith, t.0, long s.low.now s.high.now c.region.invariant, ap length c.region.view_is, c.requires)) (omega (arith, c.from-keys.ensures)))
+    omega (arith, product_fits _ _ _ c.from-keys.result c.loop-low.invariant.2 (omega (arith, t.0, long s.low.now s.high.now c.region.invariant.0, c.region.invariant.1)) (omega (arith, c.from-keys.ensures)))
 
 pub loop-low-preserved : goal.loop-low-preserved
 loop-low-preserved c =
@@ -22,4 +22,4 @@ pub returns : goal.returns
 returns c =
     let s = c.region.inside in
     let t = zip_end s.low.now s.high.now c.loop-low.yielded c.into_iter-low-iterator.result c.loop-low.low-iterator c.next.new.self _ (cc) (cc) c.loop-low.yielded_by c.in-None.is c.next.ensures.steps in
-    product_end _ _ _ c.loop-low.invariant.2 (omega (arith, t, long s.low.now s.high.now c.region.invariant, ap length c.region.view_is, c.region.invariant))
+    product_end _ _ _ c.loop-low.invariant.2 (omega (arith, t, long s.low.now s.high.now c.region.invariant.0, ap length c.region.view_is, c.region.invariant.0))

@@ -12,19 +12,19 @@ returns-then-is_empty c =
     let none : length c.args.line.now ≡ 0 = grind (arith, nat_tests) in
     rw (reply_empty (take s.words s.pool.now) c.args.line.now none, parse_empty c.args.line.now none) (unanswered s c.args.sink.now c.requires)
 
-pub returns-then-line-gt128 : goal.returns-then-line-gt128
-returns-then-line-gt128 c =
+pub returns-then-line-gt-LINE : goal.returns-then-line-gt-LINE
+returns-then-line-gt-LINE c =
     let s = c.args.store.now in
-    rw (reply_long (take s.words s.pool.now) c.args.line.now c.if-line-gt128.true, parse_long c.args.line.now c.if-line-gt128.true) (unframed s c.no_frame.ensures)
+    rw (reply_long (take s.words s.pool.now) c.args.line.now c.if-line-gt-LINE.true, parse_long c.args.line.now c.if-line-gt-LINE.true) (unframed s c.no_frame.ensures)
 
 pub returns-in-Some : goal.returns-in-Some
 returns-in-Some c =
     let s = c.args.store.now in
     let some : length c.args.line.now ≢ 0 = grind (arith, nat_tests) in
-    rw (reply_bytes (take s.words s.pool.now) c.args.line.now some c.if-line-gt128.false c.in-Some.ensures.bytes, parse_bytes c.args.line.now c.if-line-gt128.false c.in-Some.ensures.bytes) c.frame.ensures
+    rw (reply_bytes (take s.words s.pool.now) c.args.line.now some c.if-line-gt-LINE.false c.in-Some.ensures.bytes, parse_bytes c.args.line.now c.if-line-gt-LINE.false c.in-Some.ensures.bytes) c.frame.ensures
 
 pub returns-in-None : goal.returns-in-None
 returns-in-None c =
     let s = c.args.store.now in
     let some : length c.args.line.now ≢ 0 = grind (arith, nat_tests) in
-    rw (reply_bytes (take s.words s.pool.now) c.args.line.now some c.if-line-gt128.false c.in-None.ensures.bytes, parse_bytes c.args.line.now c.if-line-gt128.false c.in-None.ensures.bytes) (unframed s c.no_frame-in-None.ensures)
+    rw (reply_bytes (take s.words s.pool.now) c.args.line.now some c.if-line-gt-LINE.false c.in-None.ensures.bytes, parse_bytes c.args.line.now c.if-line-gt-LINE.false c.in-None.ensures.bytes) (unframed s c.no_frame-in-None.ensures)

@@ -14,8 +14,8 @@ use Rattle.pages.proofs.all_hold.Goals as goal
 pub all-requires-clause-callable : goal.all-requires-clause-callable
 all-requires-clause-callable c =
     let s = c.region.inside in
-    let few : length s.low.now ≤ 4 = omega (arith, seen _ s.low.now _ _ c.region.view_is c.region.invariant refl, c.requires) in
-    let same : length s.low.now ≡ length s.high.now = c.region.invariant in
+    let few : length s.low.now ≤ 4 = c.region.invariant.1 in
+    let same : length s.low.now ≡ length s.high.now = c.region.invariant.0 in
     serves_from_Range (λ x q r. search rules) (λ x g h. search rules)
 
 pub returns : goal.returns
@@ -26,5 +26,5 @@ returns c =
     let k = length ls in
     let rs = recs_of k c.args.points.now in
     all_from_yields_List (λ d. column_in d (record { lo = get_or ls d 0; hi = get_or us d 0 }) rs) c.all.new.self _ c.all.result c.all.ensures.ran (YieldsList-from_range 0 k k refl (omega arith)) (λ p b q r. search (rules, tests))
-    ∙ (all_columns k ls us rs (recs_keys k (length c.args.points.now / (k + 1)) c.args.points.now (omega (arith, div-add-mod' (length c.args.points.now) (k + 1)))) refl (sym c.region.invariant) 0 k (omega arith)
-    ∙ ap₂ (λ b n. every (λ x. within b x.key) (recs_of n c.args.points.now)) c.region.view_is (sym (seen _ ls us _ c.region.view_is c.region.invariant refl)))
+    ∙ (all_columns k ls us rs (recs_keys k (length c.args.points.now / (k + 1)) c.args.points.now (omega (arith, div-add-mod' (length c.args.points.now) (k + 1)))) refl (sym c.region.invariant.0) 0 k (omega arith)
+    ∙ ap₂ (λ b n. every (λ x. within b x.key) (recs_of n c.args.points.now)) c.region.view_is (sym (seen _ ls us _ c.region.view_is c.region.invariant.0 refl)))

@@ -1,12 +1,16 @@
--- `words::lowest_free` meets its contract: what is left to search has the answer of the whole.
-use Rattle.words.proofs.Loops.{free_here, free_next}
-use Rattle.std.proofs.Common.{sym, ◌∙◌, arith}
+-- `words::lowest_free` meets its contract: the first page that is found is the definition's.
+use Rattle.std.proofs.Common.{◌≡◌, arith, rules, tests}
+use Rattle.std.proofs.lemmas.Iterator.{first_from_Range, serves_from_Range}
+use Rattle.words.specs.Words.{word_at}
+use Rattle.words.proofs.Loops.{free_found}
 use Rattle.words.proofs.lowest_free.Goals as goal
 
-pub returns-then-word-eq0 : goal.returns-then-word-eq0
-returns-then-word-eq0 c = let a = c.args in
-    (sym (free_here a.words.now a.n c.loop-j.j c.loop-j-test.true (sym c.word.ensures.0 ∙ c.if-word-eq0.true)) ∙ c.loop-j.invariant, (omega arith, omega arith))
+pub find-requires : goal.find-requires
+find-requires c = record { can = tt; finite = tt; callable = serves_from_Range (λ x q k. search (rules, tests)) (λ x low high. omega (arith, high, c.requires)) }
 
-pub loop-j-preserved : goal.loop-j-preserved
-loop-j-preserved c = let a = c.args in
-    sym (free_next a.words.now a.n c.loop-j.j c.loop-j-test.true (λ z. c.if-word-eq0.false (c.word.ensures.0 ∙ z))) ∙ c.loop-j.invariant
+pub returns : goal.returns
+returns c =
+    let w = c.args.words.now in
+    free_found w c.args.n c.find.result (omega (arith, c.requires)) (first_from_Range _ _ _ _ (λ j. word_at w j 0 ≡ 0) (λ j. word_at w j 0 ≡ 0 → ⊥) c.find.ensures.ran
+    (λ x q k. grind (arith, tests))
+    (λ x q k. (search rules, grind (arith, tests))))

@@ -12,5 +12,5 @@ returns c =
     let l = s.inside.low.now in
     let u = s.inside.high.now in
     all_from_yields_List ordered_at c.all.new.self _ c.all.result c.all.ensures.ran (YieldsList-from_zip (YieldsList-from_slice l cc) (YieldsList-from_slice u cc)) (λ x b q k. search (rules, tests))
-    ∙ ordered_lem l u s.invariant
+    ∙ ordered_lem l u s.invariant.0
     ∙ ap ordered s.view_is

@@ -15,5 +15,5 @@ returns c =
     let m = v.inside.low.now in
     let n = v.inside.high.now in
     fold_all meets_at _ _ c.fold.ensures.ran (YieldsList-from_zip (YieldsList-from_zip (YieldsList-from_slice l cc) (YieldsList-from_slice u cc)) (YieldsList-from_zip (YieldsList-from_slice m cc) (YieldsList-from_slice n cc))) (λ a x b q k. search rules)
-    ∙ meets_lem l u m n s.invariant v.invariant (seen _ l u _ s.view_is s.invariant (sym (long m n v.invariant) ∙ ap length v.view_is ∙ c.requires))
+    ∙ meets_lem l u m n s.invariant.0 v.invariant.0 (seen _ l u _ s.view_is s.invariant.0 (sym (long m n v.invariant.0) ∙ ap length v.view_is ∙ c.requires))
     ∙ ap₂ meets s.view_is v.view_is

@@ -13,5 +13,5 @@ returns c =
     let u = s.inside.high.now in
     let p = c.args.keys.now in
     fold_all takes_at _ _ c.fold.ensures.ran (YieldsList-from_zip (YieldsList-from_zip (YieldsList-from_slice l cc) (YieldsList-from_slice u cc)) (YieldsList-from_slice p cc)) (λ a x b q k. search rules)
-    ∙ takes l u p s.invariant (seen _ l u _ s.view_is s.invariant c.requires)
+    ∙ takes l u p s.invariant.0 (seen _ l u _ s.view_is s.invariant.0 c.requires)
     ∙ ap (λ b. in_window b p) s.view_is

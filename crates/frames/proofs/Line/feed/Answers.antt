@@ -7,8 +7,8 @@ use Rattle.frames.proofs.Line.feed.Goals as goal
 pub overflow_sub-sink : goal.overflow_sub-sink
 overflow_sub-sink c = let f = c.loop-i.invariant.0 in omega (arith, f.fits, written_long f.text)
 
-pub returns-then-sink-lt531 : goal.returns-then-sink-lt531
-returns-then-sink-lt531 c =
+pub returns-then-sink-lt-ANSWER : goal.returns-then-sink-lt-ANSWER
+returns-then-sink-lt-ANSWER c =
     let f = c.loop-i.invariant.0 in
     record { fed = feeding_end f (λ h. omega (arith, f.fits, written_long f.text)) c.loop-i.store.within; same = c.loop-i.invariant.1 }
 

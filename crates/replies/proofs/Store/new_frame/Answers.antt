@@ -18,7 +18,7 @@ pub returns-then-n-gt512 : goal.returns-then-n-gt512
 returns-then-n-gt512 c =
     let s = c.args.self.now in
     let put = c.put_answer.ensures in
-    rw (new_three c.args.bytes.now (omega arith))
+    rw (new_three c.args.bytes.now _ c.from-n.result (omega arith) refl (omega (arith, c.from_be_bytes.ensures, c.from-n.ensures)))
     (format_served _ _ s (new_big s.pool.now s.words _ _ c.if-n-gt512.true (omega (arith, s.pool_long, s.within)) put.text.written put.room s.within) put.text refl refl)
 
 pub returns-then-is_ok : goal.returns-then-is_ok
@@ -27,7 +27,7 @@ returns-then-is_ok c =
     let put = c.put_answer-2.ensures in
     let f = c.format-formatted in
     let done = new_done f.result (take s.words s.pool.now) s.pool.now f.new.pool _ _ (omega (arith, s.pool_long)) f.ensures (sym c.is_ok.ensures.value ∙ c.if-is_ok.true) f.auto.pool put.text.written put.room (omega arith) in
-    rw (new_three c.args.bytes.now (omega arith)) (format_served _ _ s done put.text refl refl)
+    rw (new_three c.args.bytes.now c.from.result c.from-n.result (omega arith) c.from.ensures (omega (arith, c.from_be_bytes.ensures, c.from-n.ensures))) (format_served _ _ s done put.text refl refl)
 
 pub returns-else-is_ok : goal.returns-else-is_ok
 returns-else-is_ok c =
@@ -35,4 +35,4 @@ returns-else-is_ok c =
     let put = c.put_answer-2.ensures in
     let f = c.format-formatted in
     let kept = new_refused f.result (take s.words s.pool.now) s.pool.now f.new.pool _ _ (omega (arith, s.pool_long)) f.ensures s.words (sym c.is_ok.ensures.value ∙ c.if-is_ok.false) put.text.written put.room s.within (omega (arith, s.pool_long, s.within)) refl in
-    rw (new_three c.args.bytes.now (omega arith)) (format_served _ _ s kept put.text refl refl)
+    rw (new_three c.args.bytes.now c.from.result c.from-n.result (omega arith) c.from.ensures (omega (arith, c.from_be_bytes.ensures, c.from-n.ensures))) (format_served _ _ s kept put.text refl refl)

@@ -1,5 +1,5 @@
 -- `replies::Store::words_frame` meets its contract: each case is its function's reply.
-use Rattle.std.proofs.Common.{refl, ◌≡◌, ◌∙◌, arith, take, ◌∷◌}
+use Rattle.std.proofs.Common.{refl, ◌∙◌, arith, take, ◌∷◌}
 use Rattle.replies.specs.Reply.{remove_of, find_of, list_of}
 use Rattle.replies.proofs.Replies.{unframed, frame_bad, frame_words}
 use Rattle.replies.proofs.Calls.{unplaced}
@@ -30,13 +30,12 @@ returns-in-3 c =
       work = unplaced (take s.words s.pool.now) s.work.now (3 ∷ ws) ws 3 refl (λ e. omega arith);
     })
 
-pub returns-in_default-first : goal.returns-in_default-first
-returns-in_default-first c =
+pub returns-in-4 : goal.returns-in-4
+returns-in-4 c =
     let a = c.args in
     let s = a.self.now in
     let ws = a.bytes.now in
-    let four : a.first ≡ 4 = grind arith in
-    rw four (record {
+    rw c.in-4.is (record {
       reply = rw (frame_words (4 ∷ ws) ws 4 list_of refl c.in-Some.ensures.words (λ bs. refl)) c.list_frame.ensures;
       work = unplaced (take s.words s.pool.now) s.work.now (4 ∷ ws) ws 4 refl (λ e. omega arith);
     })
