@@ -83,3 +83,7 @@ window_lem v k e =
 -- the view of a value that was opened
 pub seen : (b : Box) (l u : List ℕ) (n : ℕ) → sides l u ≡ b → length l ≡ length u → n ≡ length b → n ≡ length l
 seen b l u n v e h = h ∙ (ap length (sym v) ∙ long l u e)
+
+-- two values that were opened, with as many domains
+pub as_long : (b d : Box) (l u m n : List ℕ) → sides l u ≡ b → sides m n ≡ d → length l ≡ length u → length m ≡ length n → length d ≡ length b → length m ≡ length l
+as_long b d l u m n v w e f h = seen b l u (length m) v e (sym (long m n f) ∙ ap length w ∙ h)

@@ -77,9 +77,6 @@ key_place k j e d = L * j + 4 + e * (k + 1) + d
 abbrev pub location_place : ℕ → ℕ → ℕ → ℕ
 location_place k j e = key_place k j e k
 
-abbrev pub point_key : List ℕ → ℕ → ℕ → ℕ → ℕ → ℕ
-point_key w k j e d = get_or w (key_place k j e d) 0
-
 abbrev pub point_location : List ℕ → ℕ → ℕ → ℕ → ℕ
 point_location w k j e = get_or w (location_place k j e) 0
 
