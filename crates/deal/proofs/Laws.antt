@@ -4,31 +4,39 @@ use mathlib.Core.List.{List, ◌++◌}
 use mathlib.Core.Path.{◌≡◌, refl, sym, ap, ap₂, ◌∙◌}
 use Prim.Native.Nat.{ℕ, suc, ◌+◌, ◌-◌, ◌*◌, ◌<◌, ◌≤◌, min}
 use native.Mathlib.Omega.{arith}
-use native.Mathlib.Nat.{suc-mul, mul-le-mul, mul-le-mul_left}
+use native.Mathlib.Nat.{add-zero, suc-mul, mul-le-mul, mul-le-mul_left}
 use native.Mathlib.Numerals.{add-one}
 use lib.Dec.{leb, ltb, eqb, leb→le, nleb→lt}
 use lib.ListN.{length, take, drop, get_or, set, replicate}
-use lib.Seq.{sets, get_or-take, get_or-drop, set-get_or, get_or-set_other}
+use lib.Seq.{sets, drop-cons, get_or-take, get_or-drop, set-get_or, get_or-set_other}
 use borrow.Author.Tests.{eq-eqb, ne_eqb}
 use Rattle.std.proofs.Common.{Result, Ok, Err}
+use Rattle.std.proofs.lemmas.List.{drop_all}
 use Rattle.std.specs.Result.{IsErr}
 use Rattle.kdb.specs.Calls.{L}
 use Rattle.kdb.proofs.Tests.{bool}
 use Rattle.kdb.proofs.Stores.{take_set, take_sets, sets_out}
 use Rattle.words.specs.Words.{lowest}
-use Rattle.words.proofs.Stores.{stored}
 use Rattle.steps.specs.Machine.{Claimed, fresh_in, append_in}
 use Rattle.steps.specs.Claim.{claim_in}
 use Rattle.steps.specs.Split.{points_in, part_points}
 use Rattle.deal.specs.declared.Wanting.{Wanting}
 use Rattle.deal.specs.Part.{claimed, open_in, half_in, both_in}
 
--- storing a part
-pub store_is : (x v : List ℕ) (at s n : ℕ) → s ≡ min at (length x) → n ≡ min (length v) (length x - s) → take s x ++ (take n v ++ drop n (drop s x)) ≡ sets x at v
-store_is x v at s n h g =
-    stored x v s n (omega arith) (omega arith)
-    ∙ bool (leb at (length x)) (λ t. let l = leb→le at (length x) t in let e : s ≡ at = omega arith in ap (λ i. sets x i v) e)
-    (λ t. let l = nleb→lt at (length x) t in sets_out x v s (omega arith) ∙ sym (sets_out x v at (omega arith)))
+-- storing a part: from a place past the end nothing is stored
+pub store_first : (x v : List ℕ) (at s : ℕ) → s ≡ min at (length x) → sets x (s + 0) v ≡ sets x at v
+store_first x v at s h = rw (add-zero s) (bool (leb at (length x))
+    (λ t. let l = leb→le at (length x) t in let e : s ≡ at = omega arith in ap (λ i. sets x i v) e)
+    (λ t. let l = nleb→lt at (length x) t in sets_out x v s (omega arith) ∙ sym (sets_out x v at (omega arith))))
+
+module _ (x : List ℕ) (s i : ℕ) (v y : List ℕ) where
+  pub store_end : sets x (s + i) (drop i v) ≡ y → length v ≤ i → x ≡ y
+  store_end e h = ap (sets x (s + i)) (sym (drop_all i v h)) ∙ e
+
+  pub store_next : sets x (s + i) (drop i v) ≡ y → i < length v → sets (set x (s + i) (get_or v i 0)) (s + (i + 1)) (drop (i + 1) v) ≡ y
+  store_next e h =
+      let q : s + (i + 1) ≡ suc (s + i) = omega arith in
+      rw (q, add-one i) (rw (drop-cons v i 0 h) at e)
 
 -- fresh pages and claims
 pub fresh_is : (w : List ℕ) (c kind e : ℕ) → set (set (sets w (32 * c) (replicate (32 * c + 32 - 32 * c) 0)) (32 * c) kind) (32 * c + 2) e ≡ fresh_in L w c kind e

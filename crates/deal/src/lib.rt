@@ -37,21 +37,22 @@ pub fn part(src: &[u32], at: usize, count: usize) -> &[u32]
     &src[start..start + n]
 }
 
-// Stores the words of src over x's from `at` on, as far as x goes.
-#[tactic(auto, using(crate::proofs::Laws::store_is))]
+// Stores the words of src over x's from `at` on, as far as x goes: one by one, since a few words over a local array would else be a call
+// of `memcpy`.
 pub fn store(x: &mut [u32], at: usize, src: &[u32])
     ensures { x.new ≡ sets x.old at src.now }
 {
     let start = at.min(x.len());
-    let n = src.len().min(x.len() - start);
-    x[start..start + n].copy_from_slice(&src[..n]);
+    for i in 0..src.len() {
+        put(x, start + i, src[i] as usize);
+    }
 }
 
-// Page c becomes a page of that kind and splitting domain with no entry.
+// Page c becomes a page with that number for its kind and that splitting domain, and no entry.
 #[tactic(auto, using(crate::proofs::Laws::fresh_is))]
-pub fn fresh(pool: &mut [u32], c: usize, kind: Kind, e: usize)
+pub fn fresh(pool: &mut [u32], c: usize, kind: u32, e: usize)
     requires { (c < 2 ^ 32) × (e < 2 ^ 32) }
-    ensures { pool.new ≡ fresh_in L pool.old c (code_of kind) e }
+    ensures { pool.new ≡ fresh_in L pool.old c kind e }
 {
     clear(pool, 32 * c, 32 * c + 32);
     put(pool, 32 * c, kind as usize);
@@ -66,7 +67,7 @@ pub fn claim(pool: &mut [u32], f: Form, kind: Kind, e: usize) -> Result<usize, W
     ensures page { IfOk result (PageIn f) }
 {
     let r = lowest_free(pool, f.pages).ok_or(Wanting)?;
-    fresh(pool, r, kind, e);
+    fresh(pool, r, kind.code(), e);
     Ok(r)
 }
 
@@ -97,7 +98,7 @@ pub fn open_pages(
     ensures page { IfOk result (PageIn f) }
 {
     let r = claim(pool, f, kind, e)?;
-    fresh(pool, j, kind, e);
+    fresh(pool, j, kind.code(), e);
     Ok(r)
 }
 

@@ -2,7 +2,7 @@
 
 // A page takes an entry: with room, or split along its chosen cut; down the first entry that holds the point, and up again as long as
 // pages break.
-ghost use Rattle.std.specs.Prelude.{◌≡◌, ◌+◌, ◌*◌, ◌≤◌, ◌<◌, ◌^◌, [], ◌∷◌, ◌++◌, length, take, IfOk, IfSome, unwrap_or};
+ghost use Rattle.std.specs.Prelude.{◌≡◌, ◌+◌, ◌*◌, ◌≤◌, ◌<◌, ◌^◌, [], ◌∷◌, ◌++◌, length, take, replicate, IfOk, IfSome, unwrap_or};
 ghost use Rattle.kdb.specs.Box.{within};
 ghost use Rattle.kdb.specs.Calls.{L};
 ghost use Rattle.kdb.specs.Pages.{regions_per, points_per};
@@ -35,7 +35,9 @@ fn holds(pool: &[u32], k: usize, a: usize, point: &[u32]) -> bool
     a + 2 * k <= pool.len() && Sides::region(pool, k, a).holds(point)
 }
 
-// The place of the first entry of page j whose region holds the point.
+// The place of the first entry of page j whose region holds the point. Called, so that a level of the tree does not hold its registers
+// on the stack.
+#[inline(never)]
 #[tactic(auto, using(crate::proofs::Laws::seek_here, crate::proofs::Laws::seek_next, crate::proofs::Laws::seek_end))]
 fn seek(pool: &[u32], f: Form, point: &[u32], j: usize) -> Option<usize>
     requires { Formed pool.now f × ((j < 2 ^ 32) × (length point.now ≡ f.domains)) }
@@ -52,16 +54,14 @@ fn seek(pool: &[u32], f: Form, point: &[u32], j: usize) -> Option<usize>
     None
 }
 
-// A copy of page j with an entry of wd words behind its last one.
+// Page j with an entry of wd words behind its last one, in the place of zeros.
 #[tactic(auto, using(crate::proofs::Laws::far))]
-fn overfull(pool: &[u32], wd: usize, j: usize, entry: &[u32]) -> [u32; 48]
-    requires { (wd ≤ 9) × (j < 2 ^ 32) }
-    ensures { take (32 + wd) result ≡ overfull L wd pool.now j entry.now }
+fn overfull(over: &mut [u32; 48], pool: &[u32], wd: usize, j: usize, entry: &[u32])
+    requires { (over.old ≡ replicate 48 0) × ((wd ≤ 9) × (j < 2 ^ 32)) }
+    ensures { take (32 + wd) over.new ≡ overfull L wd pool.now j entry.now }
 {
-    let mut over = [0u32; 48];
-    store(&mut over, 0, part(pool, 32 * j, 32));
-    store(&mut over, 4 + word(pool, j, 1) * wd, entry);
-    over
+    store(over, 0, part(pool, 32 * j, 32));
+    store(over, 4 + word(pool, j, 1) * wd, entry);
 }
 
 // The kind of a page with that level below it, which a point page has not.
@@ -126,7 +126,8 @@ fn settle(
         return Err(Wanting);
     }
     let e = word(pool, j, 2);
-    let over = overfull(pool, wd, j, entry);
+    let mut over = [0u32; 48];
+    overfull(&mut over, pool, wd, j, entry);
     break_page(pool, f, below, &over[..32 + wd], m + 1, e, j)
 }
 
@@ -153,7 +154,8 @@ impl Record<'_> {
     }
 }
 
-// Point page j takes the record.
+// Point page j takes the record. Called, as `widen` is, so that a level of the tree does not hold these entries on the stack.
+#[inline(never)]
 #[tactic(auto, using(crate::proofs::Laws::grow_point))]
 fn grow_points(pool: &mut [u32], added: &Record, j: usize) -> Result<Option<Broken>, Wanting>
     requires { Formed pool.old added.now.form × (j < 2 ^ 32) }
@@ -165,6 +167,7 @@ fn grow_points(pool: &mut [u32], added: &Record, j: usize) -> Result<Option<Brok
 }
 
 // Region page j, whose child in the entry at word a broke, takes both halves.
+#[inline(never)]
 #[tactic(auto, using(crate::proofs::Laws::widen_is))]
 fn widen(
     pool: &mut [u32],

@@ -15,7 +15,7 @@ ghost use Rattle.place.specs.Steps.{header_of, Topping, steps_in};
 use deal::{Wanting, append, append_half, claim};
 use grow::{Broken, Record, grow};
 use kdb::Form;
-use words::{Kind, WHOLE, clear, get, put, word};
+use words::{Kind, WHOLE, clear, copy, get, put, word};
 
 // The header's words that placing changes.
 #[derive(Clone, Copy, Debug, PartialEq, Eq)]
@@ -122,7 +122,7 @@ pub fn place_in(
     requires { Fit pool.old f × (Topping (root_at pool.old) (levels_at pool.old) (count_at pool.old) × ((length point.now ≡ f.domains) × (length work.old ≡ length pool.old))) }
     ensures { (passed result pool.new ≡ place_in L point.now location pool.old) × (work.new ≡ pool.old) }
 {
-    work.copy_from_slice(pool);
+    copy(work, pool);
     let added = Record {
         form: f,
         point,
@@ -130,7 +130,7 @@ pub fn place_in(
     };
     let placed = place_steps(pool, &added);
     if placed.is_err() {
-        pool.copy_from_slice(work);
+        copy(pool, work);
     }
     placed
 }

@@ -1,4 +1,4 @@
--- What `copy_from_slice` and `fill` leave in a buffer, as a run of stores.
+-- What `fill` leaves in a buffer, as a run of stores.
 use Prim.Native.Nat.{ℕ, ◌+◌, ◌-◌, ◌≤◌, ◌<◌, min}
 use mathlib.Core.List.{List, ◌++◌, append_assoc}
 use mathlib.Core.Path.{◌≡◌, sym, ap, ◌∙◌}

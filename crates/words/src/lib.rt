@@ -5,7 +5,7 @@ ghost use Rattle.std.specs.Prelude.{◌≡◌, ◌+◌, ◌*◌, ◌-◌, ◌≤
 ghost use Rattle.std.proofs.lemmas.List.Edits.{sets};
 ghost use Rattle.kdb.specs.Pool.{domains, root_at, levels_at, count_at, pages_in, good_header, GoodLength};
 ghost use Rattle.kdb.specs.Calls.{L, finite};
-ghost use Rattle.words.specs.Words.{word_at, page_count, form_of, opened, capacity_by, width_of, keys_of, point_location, page_or, lowest, all_zero, RecordIn, Fit};
+ghost use Rattle.words.specs.Words.{word_at, page_count, form_of, opened, capacity_by, code_of, width_of, key_place, location_place, keys_of, point_location, page_or, lowest, all_zero, RecordIn, Fit};
 
 use kdb::{Form, Refusal};
 use std::marker::Model;
@@ -18,6 +18,13 @@ pub enum Kind {
 }
 
 impl Kind {
+    // The first word of such a page.
+    pub fn code(self) -> u32
+        ensures { result ≡ code_of self }
+    {
+        self as u32
+    }
+
     // Entries a page: R or P.
     pub fn capacity(self, k: usize) -> usize
         requires { (1 ≤ k) × (k ≤ 4) }
@@ -133,6 +140,15 @@ pub fn all_finite(words: &[u32]) -> bool
     words.iter().all(|word| *word < u32::MAX)
 }
 
+// Copies words from the front on, as far as both go: by places, since that compiles to a loop, and the library then needs no `memcpy`.
+pub fn copy(to: &mut [u32], from: &[u32])
+    ensures { to.new ≡ sets to.old 0 from.now }
+{
+    for i in 0..to.len().min(from.len()) {
+        to[i] = from[i];
+    }
+}
+
 // Zeroes the words from `from` to `to`.
 pub fn clear(words: &mut [u32], from: usize, to: usize)
     ensures { words.new ≡ sets words.old from (replicate (to - from) 0) }
@@ -153,6 +169,30 @@ pub fn lowest_free(words: &[u32], n: usize) -> Option<usize>
             requires { j.now < 2 ^ 32 }
         { word(words, *j, 0) == 0 },
     )
+}
+
+// The domains of a form: from here on the compiler knows that they are 1 to 4.
+pub fn domains_of(f: Form) -> usize
+    requires { (1 ≤ f.domains) × (f.domains ≤ 4) }
+    ensures { result ≡ f.domains }
+{
+    (f.domains - 1).min(3) + 1
+}
+
+// Where key d of the record in a slot of point page j stands: a record is its keys, then its location.
+pub fn key_at(f: Form, j: usize, slot: usize, d: usize) -> usize
+    requires { (f.domains ≤ 4) × (key_place f.domains j slot d < 2 ^ 64) }
+    ensures { result ≡ key_place f.domains j slot d }
+{
+    32 * j + 4 + slot * (f.domains + 1) + d
+}
+
+// Where its location stands.
+pub fn location_at(f: Form, j: usize, slot: usize) -> usize
+    requires { (f.domains ≤ 4) × (location_place f.domains j slot < 2 ^ 64) }
+    ensures { result ≡ location_place f.domains j slot }
+{
+    key_at(f, j, slot, f.domains)
 }
 
 // A pool that is lent to be read, with its form: the words in which page and entry stand lie in it.
@@ -192,11 +232,11 @@ impl<'a> Pool<'a> {
         self.form.pages
     }
 
-    // The domains: from here on the compiler knows that they are 1 to 4.
+    // The domains, which are 1 to 4.
     pub fn domains(&self) -> usize
         ensures { (result ≡ domains self.now) × ((1 ≤ result) × (result ≤ 4)) }
     {
-        (self.form.domains - 1).min(3) + 1
+        domains_of(self.form)
     }
 
     // The root's page, 0 where there is none.
@@ -232,14 +272,14 @@ impl<'a> Pool<'a> {
         words[at] as usize
     }
 
-    // The keys of the record in a slot of point page j: a record is its keys, then its location.
+    // The keys of the record in a slot of point page j.
     pub fn keys(&self, j: usize, slot: usize) -> &'a [u32]
         requires { RecordIn self.now (domains self.now) j slot }
         ensures { (result.now ≡ keys_of (domains self.now) self.now j slot) × (length result.now ≡ domains self.now) }
     {
         let words = self.words;
         let k = self.domains();
-        let at = 32 * j + 4 + slot * (k + 1);
+        let at = key_at(self.form, j, slot, 0);
         &words[at..at + k]
     }
 
@@ -249,7 +289,6 @@ impl<'a> Pool<'a> {
         ensures { result ≡ point_location self.now (domains self.now) j slot }
     {
         let words = self.words;
-        let k = self.domains();
-        words[32 * j + 4 + slot * (k + 1) + k]
+        words[location_at(self.form, j, slot)]
     }
 }

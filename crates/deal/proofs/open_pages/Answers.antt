@@ -3,4 +3,4 @@ use Rattle.deal.proofs.Laws.{open_some}
 use Rattle.deal.proofs.open_pages.Goals as goal
 
 pub returns-clause-words : goal.returns-clause-words
-returns-clause-words c = rw c.fresh.ensures (open_some _ _ _ _ _ _ _ c.in_ok-r.ensures.page.some c.in_ok-r.ensures.words)
+returns-clause-words c = rw (c.fresh.ensures, c.code.ensures) (open_some _ _ _ _ _ _ _ c.in_ok-r.ensures.page.some c.in_ok-r.ensures.words)
