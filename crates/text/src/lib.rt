@@ -71,6 +71,15 @@ fn digit_of(v: usize) -> u8
     }
 }
 
+// Sets the byte at `at`, if there is one.
+pub fn put(out: &mut [u8], at: usize, b: u8)
+    ensures { out.new ≡ set out.old at b }
+{
+    if at < out.len() {
+        out[at] = b;
+    }
+}
+
 // Where an answer is written: a buffer, and the place of the next byte. Past the buffer's end the place moves on, and nothing is written.
 #[derive(Drop)]
 pub struct Sink<'a> {
@@ -79,22 +88,12 @@ pub struct Sink<'a> {
 }
 
 impl Sink<'_> {
-    // Sets the byte at `at`, if there is one.
-    fn set(&mut self, at: usize, b: u8)
-        ensures kept { (self.new.at ≡ self.old.at) × (self.new.out.ghost_name ≡ self.old.out.ghost_name) }
-        ensures set { self.new.out.now ≡ set self.old.out.now at b }
-    {
-        if at < self.out.len() {
-            self.out[at] = b;
-        }
-    }
-
     // One byte.
     pub fn put(&mut self, b: u8)
         requires { self.old.at < 2 ^ 63 }
         ensures { Puts self.old (b ∷ []) self.new }
     {
-        self.set(self.at, b);
+        put(self.out, self.at, b);
         self.at += 1;
     }
 
@@ -105,7 +104,7 @@ impl Sink<'_> {
     {
         let mut rest = v;
         for i in (0..n).rev() {
-            self.set(self.at + i, digit_of(rest % 16));
+            put(self.out, self.at + i, digit_of(rest % 16));
             rest /= 16;
         }
         self.at += n;
