@@ -1,5 +1,5 @@
 -- The answers of the calls as text: an outcome's number, values and locations are what the code writes.
-use Rattle.std.proofs.Common.{◌≡◌, ℕ, List, [], ◌∷◌, get_or, take, ap, Result, Ok, Err}
+use Rattle.std.proofs.Common.{◌≡◌, ℕ, List, [], ◌∷◌, get_or, take, refl, ap, Result, Ok, Err}
 use Rattle.kdb.specs.Lists.{gather}
 use Rattle.kdb.specs.declared.Refusal.{Refusal}
 use Rattle.kdb.specs.Calls.{Buffers, number_of}
@@ -9,6 +9,11 @@ use Rattle.text.specs.declared.Sink.{Sink}
 use Rattle.text.specs.Puts.{Puts}
 use Rattle.text.proofs.Write.{puts_then}
 use Rattle.answers.specs.Spoken.{number_in, values_in, text_of}
+
+-- the number 255 alone is FF
+pub ff : text_of 255 [] [] ≡ 70 ∷ 70 ∷ 10 ∷ []
+unfolding text_of
+ff = refl
 
 -- the parts of an answer, one after the other
 pub answer_parts : {a b c d e : Sink} (number : ℕ) (values found : List ℕ) → Puts a (hex 2 number) b → Puts b (gather (hex 8) values) c → Puts c (gather (hex 8) found) d → Puts d (10 ∷ []) e → Puts a (text_of number values found) e

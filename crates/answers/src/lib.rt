@@ -59,20 +59,36 @@ impl Given for Listed {
 }
 
 // A whole answer: the number, the values, the locations and a line feed.
+pub fn put_values<V: Given>(sink: &mut Sink, number: usize, given: &V, found: &[u32])
+    requires { (sink.old.at + 531 ≤ 2 ^ 63) × (length found.now ≤ 64) }
+    ensures text { Puts sink.old (text_of number (V.values given.now) found.now) sink.new }
+    ensures room { sink.new.at ≤ sink.old.at + 531 }
+{
+    sink.put_hex(2, number);
+    given.put(sink);
+    sink.put_words(found);
+    sink.put(b'\n');
+}
+
+// The answer of a call: 0 and what it gives, or the number of its refusal.
 pub fn put_answer<V: Given>(sink: &mut Sink, answer: &Result<V, Refusal>, found: &[u32])
     requires { (sink.old.at + 531 ≤ 2 ^ 63) × (length found.now ≤ 64) }
     ensures text { Puts sink.old (text_of (number_in answer.now) (values_in V.values answer.now) found.now) sink.new }
     ensures room { sink.new.at ≤ sink.old.at + 531 }
 {
     match answer {
-        Ok(given) => {
-            sink.put_hex(2, 0);
-            given.put(sink);
-        }
-        Err(refusal) => sink.put_hex(2, u32::from(*refusal) as usize),
+        Ok(given) => put_values(sink, 0, given, found),
+        Err(refusal) => put_values(sink, u32::from(*refusal) as usize, &(), found),
     }
-    sink.put_words(found);
-    sink.put(b'\n');
+}
+
+// A refusal's answer: the number alone.
+pub fn refuse(sink: &mut Sink, number: usize)
+    requires { sink.old.at + 531 ≤ 2 ^ 63 }
+    ensures text { Puts sink.old (text_of number [] []) sink.new }
+    ensures room { sink.new.at ≤ sink.old.at + 531 }
+{
+    put_values(sink, number, &(), &[]);
 }
 
 // No frame answers FF.
@@ -80,6 +96,5 @@ pub fn no_frame(sink: &mut Sink)
     requires { sink.old.at + 531 ≤ 2 ^ 63 }
     ensures { Puts sink.old (70 ∷ 70 ∷ 10 ∷ []) sink.new }
 {
-    sink.put_hex(2, 0xFF);
-    sink.put(b'\n');
+    refuse(sink, 0xFF);
 }

@@ -36,7 +36,7 @@ fn line_answer(line: &[u8], store: &mut Store, sink: &mut Sink)
     }
     let mut bytes = [0u8; 64];
     match decode(line, &mut bytes) {
-        Some(bytes) => store.frame(bytes, sink),
+        Some(n) => store.frame(&bytes[..n], sink),
         None => no_frame(sink),
     }
 }

@@ -97,9 +97,10 @@ impl Store<'_> {
         ensures { Obeys (framed (some (first ∷ bytes.now))) self.old sink.old self.new sink.new }
     {
         let mut list = [0u32; 16];
-        let Some(words) = words_of(bytes, &mut list) else {
+        let Some(n) = words_of(bytes, &mut list) else {
             return no_frame(sink);
         };
+        let words = &list[..n];
         match first {
             1 => self.place_frame(words, sink),
             2 => self.remove_frame(words, sink),

@@ -1,5 +1,5 @@
 -- What the code that reads and writes text ensures, in kdb's definitions of digits, bytes and words.
-use Rattle.std.specs.Prelude.{Option, Some, None, List, ◌≡◌, ℕ, ◌+◌, ◌*◌, length}
+use Rattle.std.specs.Prelude.{Option, Some, None, List, ◌≡◌, ℕ, ◌+◌, ◌*◌, length, take}
 use Rattle.std.specs.Borrow.{Bor}
 use Rattle.std.proofs.Math.Option as maybe
 use Rattle.std.proofs.lemmas.List.Edits.{sets}
@@ -15,6 +15,11 @@ read (Some x) = maybe.some x
 abbrev pub shown : {A : Type 0} → Option (Bor (List A)) → maybe.Option (List A)
 shown None = maybe.none
 shown (Some s) = maybe.some s.now
+
+-- the first n elements, where n is there
+abbrev pub front : Option ℕ → List ℕ → maybe.Option (List ℕ)
+front None l = maybe.none
+front (Some n) l = maybe.some (take n l)
 
 -- the byte of two digits
 abbrev pub pair_of : ℕ → ℕ → maybe.Option ℕ

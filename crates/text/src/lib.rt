@@ -4,7 +4,7 @@
 ghost use Rattle.std.specs.Prelude.{◌≡◌, ◌∷◌, [], ◌+◌, ◌*◌, ◌≤◌, ◌<◌, ◌^◌, length, get_or, set, IfSome};
 ghost use Rattle.kdb.specs.Lists.{gather};
 ghost use Rattle.kdb.specs.Frames.{digit, bytes_of, words_of, digit_of, hex};
-ghost use Rattle.text.specs.Text.{read, shown, pair_of};
+ghost use Rattle.text.specs.Text.{read, front, pair_of};
 ghost use Rattle.text.specs.Puts.{Puts};
 
 // The value of a hexadecimal digit, upper or lower case.
@@ -27,11 +27,11 @@ fn pair_value(high: u8, low: u8) -> Option<u8>
     Some(16 * digit_value(high)? + digit_value(low)?)
 }
 
-// The bytes of a line of digits; none for an odd number of digits or another character.
-pub fn decode<'a>(line: &[u8], bytes: &'a mut [u8; 64]) -> Option<&'a [u8]>
+// The bytes of a line of digits, and how many; none for an odd number of digits or another character.
+pub fn decode(line: &[u8], bytes: &mut [u8; 64]) -> Option<usize>
     requires { length line.now ≤ 128 }
-    ensures bytes { shown result ≡ bytes_of line.now }
-    ensures few { IfSome result (λ s. length s.now ≤ 64) }
+    ensures bytes { front result bytes.new ≡ bytes_of line.now }
+    ensures few { IfSome result (λ n. n ≤ 64) }
 {
     let (pairs, odd) = line.as_chunks::<2>();
     if !odd.is_empty() {
@@ -40,14 +40,14 @@ pub fn decode<'a>(line: &[u8], bytes: &'a mut [u8; 64]) -> Option<&'a [u8]>
     for (n, [high, low]) in pairs.iter().enumerate() {
         bytes[n] = pair_value(*high, *low)?;
     }
-    Some(&bytes[..pairs.len()])
+    Some(pairs.len())
 }
 
-// The words of the bytes, 4 each, high byte first; none for a part word.
-pub fn words_of<'a>(bytes: &[u8], words: &'a mut [u32; 16]) -> Option<&'a [u32]>
+// The words of the bytes, 4 each, high byte first, and how many; none for a part word.
+pub fn words_of(bytes: &[u8], words: &mut [u32; 16]) -> Option<usize>
     requires { length bytes.now ≤ 63 }
-    ensures words { shown result ≡ words_of bytes.now }
-    ensures few { IfSome result (λ s. length s.now ≤ 16) }
+    ensures words { front result words.new ≡ words_of bytes.now }
+    ensures few { IfSome result (λ n. n ≤ 16) }
 {
     let (fours, part) = bytes.as_chunks::<4>();
     if !part.is_empty() {
@@ -56,7 +56,7 @@ pub fn words_of<'a>(bytes: &[u8], words: &'a mut [u32; 16]) -> Option<&'a [u32]>
     for (n, four) in fours.iter().enumerate() {
         words[n] = u32::from_be_bytes(*four);
     }
-    Some(&words[..fours.len()])
+    Some(fours.len())
 }
 
 // A digit of an answer, upper case.
@@ -71,6 +71,15 @@ fn digit_of(v: usize) -> u8
     }
 }
 
+// Sets the byte at `at`, if there is one.
+pub fn put(out: &mut [u8], at: usize, b: u8)
+    ensures { out.new ≡ set out.old at b }
+{
+    if at < out.len() {
+        out[at] = b;
+    }
+}
+
 // Where an answer is written: a buffer, and the place of the next byte. Past the buffer's end the place moves on, and nothing is written.
 #[derive(Drop)]
 pub struct Sink<'a> {
@@ -79,22 +88,12 @@ pub struct Sink<'a> {
 }
 
 impl Sink<'_> {
-    // Sets the byte at `at`, if there is one.
-    fn set(&mut self, at: usize, b: u8)
-        ensures kept { (self.new.at ≡ self.old.at) × (self.new.out.ghost_name ≡ self.old.out.ghost_name) }
-        ensures set { self.new.out.now ≡ set self.old.out.now at b }
-    {
-        if at < self.out.len() {
-            self.out[at] = b;
-        }
-    }
-
     // One byte.
     pub fn put(&mut self, b: u8)
         requires { self.old.at < 2 ^ 63 }
         ensures { Puts self.old (b ∷ []) self.new }
     {
-        self.set(self.at, b);
+        put(self.out, self.at, b);
         self.at += 1;
     }
 
@@ -105,7 +104,7 @@ impl Sink<'_> {
     {
         let mut rest = v;
         for i in (0..n).rev() {
-            self.set(self.at + i, digit_of(rest % 16));
+            put(self.out, self.at + i, digit_of(rest % 16));
             rest /= 16;
         }
         self.at += n;
