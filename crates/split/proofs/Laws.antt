@@ -118,7 +118,7 @@ module _ (n : ℕ) (w : List ℕ) (j : ℕ) (h : length w ≡ 32 * n) where
     unfolding part_points points_in
     no_points e s y = rw y
 
-    split_points : (level : ℕ) → level ≡ 0 → part_points L n k d x (copied w j) (word L w j 1) (after_forced k (word L w j 2)) j w ≡ split_in L n k d x level j w
+    pub split_points : (level : ℕ) → level ≡ 0 → part_points L n k d x (copied w j) (word L w j 1) (after_forced k (word L w j 2)) j w ≡ split_in L n k d x level j w
     unfolding split_in
     split_points level z = let e = after_forced k (word L w j 2) in rw z (copied_page (λ s. part_points L n k d x s (word L w j 1) e j w) (no_points e))
 
@@ -127,7 +127,7 @@ module _ (n : ℕ) (w : List ℕ) (j : ℕ) (h : length w ≡ 32 * n) where
     unfolding part_regions entries_in
     no_entries below e s y = rw y
 
-    split_regions : (level l : ℕ) → level ≡ suc l → part_regions L n k d x (split_in L n k d x l) (copied w j) (word L w j 1) (after_forced k (word L w j 2)) j w ≡ split_in L n k d x level j w
+    pub split_regions : (level l : ℕ) → level ≡ suc l → part_regions L n k d x (split_in L n k d x l) (copied w j) (word L w j 1) (after_forced k (word L w j 2)) j w ≡ split_in L n k d x level j w
     unfolding split_in
     split_regions level l z =
         let e = after_forced k (word L w j 2) in

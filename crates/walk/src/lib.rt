@@ -190,8 +190,8 @@ fn enter(pool: &Pool, kind: Kind, j: usize, s: Tally) -> Result<Tally, Stopped>
     })
 }
 
-// The one place where it holds, else the other. A word is chosen by its place, since an `if` between two words makes a branch, and list a third
-// slower.
+// The one place where it holds, else the other. A word is chosen by its place, since an `if` between two words makes a branch, and list a
+// quarter slower.
 fn either<'a>(holds: bool, one: &'a u32, other: &'a u32) -> &'a u32
     ensures { result.now ≡ cond holds one.now other.now }
 {
