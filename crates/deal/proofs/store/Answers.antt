@@ -1,5 +1,4 @@
 -- `deal::store` meets its contract: what is left to store gives what the whole gives.
-use Rattle.std.proofs.Common.{rules}
 use Rattle.deal.proofs.Laws.{store_first, store_next, store_end}
 use Rattle.deal.proofs.store.Goals as goal
 
