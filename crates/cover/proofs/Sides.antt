@@ -5,13 +5,13 @@ use mathlib.Core.Path.{◌≡◌, refl, sym, ap, ◌∙◌}
 use Prim.Native.Nat.{ℕ, zero, suc, ◌+◌, ◌-◌, ◌*◌, ◌^◌, ◌<◌, ◌≤◌}
 use native.Mathlib.Omega.{arith}
 use native.Mathlib.Numerals.{add-one}
-use native.Mathlib.Nat.{mul_assoc, mul-one, mul-le-mul}
+use native.Mathlib.Nat.{mul_assoc, mul-one, mul-le-mul, pow-suc}
 use lib.ListN.{length, drop, get_or, drop_of_length-le}
 use Rattle.std.specs.List.{list_all, range_with_len}
 use Rattle.boxes.proofs.Tests.{long}
 use Rattle.kdb.specs.Box.{Side, Box, sides}
 use Rattle.cover.specs.Boxes.{side_by_side}
-use Rattle.cover.specs.Volume.{volume_of, side_keys}
+use Rattle.cover.specs.Volume.{volume_of}
 
 pub sides_turn : (ls us : List ℕ) (i : ℕ) → i < length ls → i < length us
     → drop i (sides ls us) ≡ record { lo = get_or ls i 0; hi = get_or us i 0 } ∷ drop (suc i) (sides ls us)
@@ -32,38 +32,30 @@ beside f l u m v e g h i (suc n) q =
     rw (sides_turn l u i (omega arith) (omega arith), sides_turn m v i (omega arith) (omega arith))
     (ap (λ r. f (side_of l u i) (side_of m v i) && r) (beside f l u m v e g h (i + 1) n (omega arith) ∙ rw (add-one i)))
 
--- a side's keys by the ends, and where there is no such domain
-pub side_there : (ls us : List ℕ) (d : ℕ) → d < length ls → d < length us → side_keys (sides ls us) d ≡ get_or us d 0 - get_or ls d 0
-side_there [] us d h g = absurd (omega arith)
-side_there (l ∷ ls) [] d h g = absurd (omega arith)
-side_there (l ∷ ls) (u ∷ us) zero h g = refl
-side_there (l ∷ ls) (u ∷ us) (suc d) h g = side_there ls us d (omega arith) (omega arith)
+-- v is the product of the first n sides
+pub record Product (b : Box) (v n : ℕ) : Type 0 where
+  pub is : v * volume_of (drop n b) ≡ volume_of b
+  pub most : v ≤ 4294967295 ^ n
 
-pub side_past : (b : Box) (d : ℕ) → length b ≤ d → side_keys b d ≡ 1
-side_past [] d h = refl
-side_past (s ∷ b) zero h = absurd (omega arith)
-side_past (s ∷ b) (suc d) h = side_past b d (omega arith)
+-- one side more
+pub product_turn : (ls us : List ℕ) (v i x : ℕ) → Product (sides ls us) v i → i < length ls → i < length us → x ≡ get_or us i 0 - get_or ls i 0 → x < 2 ^ 32
+    → Product (sides ls us) (v * x) (i + 1)
+product_turn ls us v i x p h g e f =
+    record {
+      is = rw (add-one i, mul_assoc v x (volume_of (drop (suc i) (sides ls us))), e) (rw (sides_turn ls us i h g) at p.is);
+      most = rw (add-one, pow-suc) (mul-le-mul p.most (omega arith));
+    }
 
--- at most four sides, two by two
-pub volume_four : (b : Box) → length b ≤ 4 → volume_of b ≡ side_keys b 0 * side_keys b 1 * (side_keys b 2 * side_keys b 3)
-volume_four [] h = refl
-volume_four (s ∷ []) h = sym (mul-one ((s.hi - s.lo) * 1))
-volume_four (s ∷ t ∷ []) h = rw (mul-one (t.hi - t.lo)) (sym (mul-one ((s.hi - s.lo) * (t.hi - t.lo))))
-volume_four (s ∷ t ∷ u ∷ []) h = sym (mul_assoc (s.hi - s.lo) (t.hi - t.lo) ((u.hi - u.lo) * 1))
-volume_four (s ∷ t ∷ u ∷ v ∷ []) h = rw (mul-one (v.hi - v.lo)) (sym (mul_assoc (s.hi - s.lo) (t.hi - t.lo) ((u.hi - u.lo) * (v.hi - v.lo))))
-volume_four (s ∷ t ∷ u ∷ v ∷ w ∷ b) h = absurd (omega arith)
+-- at most three sides have a product that a fourth keeps below 2 ^ 128
+pub product_fits : (b : Box) (v i x : ℕ) → Product b v i → i < 4 → x < 2 ^ 32 → v * x < 2 ^ 128
+product_fits b v i x p h f = let m : v * x ≤ 4294967295 ^ i * 4294967295 = mul-le-mul p.most (omega arith) in omega (arith, powers i h)
+  where
+    powers : (i : ℕ) → i < 4 → 4294967295 ^ i * 4294967295 < 2 ^ 128
+    powers zero h = omega arith
+    powers (suc zero) h = omega arith
+    powers (suc (suc zero)) h = omega arith
+    powers (suc (suc (suc zero))) h = omega arith
+    powers (suc (suc (suc (suc i)))) h = absurd (omega arith)
 
--- two sides have a product of 64 bits, and two of these one of 128
-pub two_fit : (x y : ℕ) → x < 2 ^ 32 → y < 2 ^ 32 → x * y < 2 ^ 64
-two_fit x y h g =
-    let a : x ≤ 4294967295 = omega arith in
-    let b : y ≤ 4294967295 = omega arith in
-    let m : x * y ≤ 4294967295 * 4294967295 = mul-le-mul a b in
-    omega (arith, m)
-
-pub four_fit : (x y : ℕ) → x < 2 ^ 64 → y < 2 ^ 64 → x * y < 2 ^ 128
-four_fit x y h g =
-    let a : x ≤ 18446744073709551615 = omega arith in
-    let b : y ≤ 18446744073709551615 = omega arith in
-    let m : x * y ≤ 18446744073709551615 * 18446744073709551615 = mul-le-mul a b in
-    omega (arith, m)
+pub product_end : (b : Box) (v i : ℕ) → Product b v i → length b ≤ i → v ≡ volume_of b
+product_end b v i p h = sym (mul-one v) ∙ (rw (drop_of_length-le b {i = i} h) at p.is)

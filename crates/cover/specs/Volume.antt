@@ -1,12 +1,6 @@
 -- How many keys a region holds.
-use Rattle.std.specs.Prelude.{List, [], ◌∷◌, ℕ, zero, suc, ◌+◌, ◌*◌, ◌-◌}
+use Rattle.std.specs.Prelude.{List, [], ◌∷◌, ℕ, ◌+◌, ◌*◌, ◌-◌}
 use Rattle.kdb.specs.Box.{Box}
-
--- the keys of a region's side in domain d, and 1 where there is no such domain
-abbrev pub side_keys : Box → ℕ → ℕ
-side_keys [] d = 1
-side_keys (s ∷ b) zero = s.hi - s.lo
-side_keys (s ∷ b) (suc d) = side_keys b d
 
 -- the keys of one region, and of regions of which no two share a key
 abbrev pub volume_of : Box → ℕ

@@ -2,10 +2,10 @@
 
 // The exact test that the regions of a page tile a region, for every arrangement: each not empty and inside, no two with a common key,
 // and as many keys together as the region has.
-ghost use Rattle.std.specs.Prelude.{◌≡◌, ◌≤◌, ◌<◌, ◌^◌, true, length};
+ghost use Rattle.std.specs.Prelude.{◌≡◌, true, length};
 ghost use Rattle.kdb.specs.Tiling.{tiles};
 ghost use Rattle.cover.specs.Boxes.{inside_of, overlap, clear_of, fitted, regions_of};
-ghost use Rattle.cover.specs.Volume.{volume_of, side_keys};
+ghost use Rattle.cover.specs.Volume.{volume_of};
 
 use boxes::Sides;
 
@@ -56,28 +56,15 @@ fn fit(entries: &[u32], region: &Sides) -> bool
     true
 }
 
-// The keys of the region's side in domain d, and 1 where there is no such domain; there are four at most.
-#[tactic(auto, using(crate::proofs::Sides::side_there, crate::proofs::Sides::side_past, boxes::proofs::Tests::long))]
-fn side(region: &Sides, d: usize) -> u64
-    ensures keys { (result ≡ side_keys region.now d) × (result < 2 ^ 32) }
-    ensures few { length region.now ≤ 4 }
-{
-    if d < region.low.len() {
-        u64::from(region.high[d].saturating_sub(region.low[d]))
-    } else {
-        1
-    }
-}
-
-// How many keys the region holds. Two sides have a product of 64 bits, and four one of 128: without a loop, which takes a check of K = 4 a
-// fifth more time.
-#[tactic(auto, using(crate::proofs::Sides::volume_four, crate::proofs::Sides::two_fit, crate::proofs::Sides::four_fit))]
+// How many keys the region holds.
 fn volume(region: &Sides) -> u128
     ensures { result ≡ volume_of region.now }
 {
-    let front = side(region, 0) * side(region, 1);
-    let back = side(region, 2) * side(region, 3);
-    u128::from(front) * u128::from(back)
+    let mut keys: u128 = 1;
+    for (low, high) in region.low.iter().zip(region.high) {
+        keys *= u128::from(high.saturating_sub(*low));
+    }
+    keys
 }
 
 // The entries' regions, which fit in the region, have together as many keys.
