@@ -11,7 +11,6 @@ use lib.ListN.{length, take, drop, get_or, set, replicate}
 use lib.Seq.{sets, drop-cons, get_or-take, get_or-drop, set-get_or, get_or-set_other}
 use borrow.Author.Tests.{eq-eqb, ne_eqb}
 use Rattle.std.proofs.Common.{Result, Ok, Err}
-use Rattle.std.proofs.lemmas.List.{drop_all}
 use Rattle.std.specs.Result.{IsErr}
 use Rattle.kdb.specs.Calls.{L}
 use Rattle.kdb.proofs.Tests.{bool}
@@ -30,9 +29,6 @@ store_first x v at s h = rw (add-zero s) (bool (leb at (length x))
     (λ t. let l = nleb→lt at (length x) t in sets_out x v s (omega arith) ∙ sym (sets_out x v at (omega arith))))
 
 module _ (x : List ℕ) (s i : ℕ) (v y : List ℕ) where
-  pub store_end : sets x (s + i) (drop i v) ≡ y → length v ≤ i → x ≡ y
-  store_end e h = ap (sets x (s + i)) (sym (drop_all i v h)) ∙ e
-
   pub store_next : sets x (s + i) (drop i v) ≡ y → i < length v → sets (set x (s + i) (get_or v i 0)) (s + (i + 1)) (drop (i + 1) v) ≡ y
   store_next e h =
       let q : s + (i + 1) ≡ suc (s + i) = omega arith in

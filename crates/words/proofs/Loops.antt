@@ -4,9 +4,8 @@ use mathlib.Core.Bool.{Bool, ◌&&◌}
 use mathlib.Core.List.{List, [], ◌∷◌}
 use mathlib.Core.Path.{◌≡◌, refl, sym, ap, ap₂, ◌∙◌}
 use native.Mathlib.Omega.{arith}
-use native.Mathlib.Numerals.{add-one}
 use lib.Dec.{leb, leb→le, nleb→lt}
-use lib.ListN.{length, take, drop, get_or, set, length-drop, get_or-eq_default}
+use lib.ListN.{length, take, drop, get_or, length-drop, get_or-eq_default}
 use lib.Seq.{sets, drop-cons}
 use borrow.Author.Tests.{ne_eqb}
 use Rattle.kdb.specs.Lists.{every}
@@ -66,14 +65,11 @@ module _ (w : List ℕ) (n : ℕ) where
   free_found None l h = (sym (free_none (n - 1) 1 (λ i a b. h i a (omega arith))), tt)
   free_found (Some i) l h = (sym (free_first (n - 1) 1 i h.0 (omega (arith, h.1)) h.2 h.3), (h.0, h.1))
 
--- a copy of words from the front on: it ends where nothing is left to store, or nothing of the buffer
+-- a run of stores ends where nothing is left to store, or nothing of the buffer
 module _ (x : List ℕ) (i : ℕ) (y : List ℕ) where
-  store_end : (u : List ℕ) → sets x i u ≡ y → min (length x) (i + length u) ≤ i → x ≡ y
+  pub store_end : (u : List ℕ) → sets x i u ≡ y → min (length x) (i + length u) ≤ i → x ≡ y
   store_end [] v h = v
   store_end (a ∷ u) v h = sym (sets_out x (a ∷ u) i (omega arith)) ∙ v
 
   pub copy_end : (s : List ℕ) → sets x i (drop i s) ≡ y → min (length x) (length s) ≤ i → x ≡ y
   copy_end s v h = store_end (drop i s) v (omega (arith, length-drop i s))
-
-  pub copy_next : (s : List ℕ) → sets x i (drop i s) ≡ y → i < length s → sets (set x i (get_or s i 0)) (i + 1) (drop (i + 1) s) ≡ y
-  copy_next s v h = rw (add-one i) (rw (drop-cons s i 0 h) at v)

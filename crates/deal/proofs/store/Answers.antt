@@ -1,5 +1,7 @@
--- `deal::store` meets its contract: what is left to store gives what the whole gives.
-use Rattle.deal.proofs.Laws.{store_first, store_next, store_end}
+-- `deal::store` meets its contract: what is left to store gives what the whole gives, and in the end nothing is left.
+use Rattle.std.proofs.Common.{drop, length-drop, arith}
+use Rattle.words.proofs.Loops.{store_end}
+use Rattle.deal.proofs.Laws.{store_first, store_next}
 use Rattle.deal.proofs.store.Goals as goal
 
 pub loop-i-init : goal.loop-i-init
@@ -9,4 +11,6 @@ pub loop-i-preserved : goal.loop-i-preserved
 loop-i-preserved c = rw c.put.ensures (store_next _ _ _ _ _ c.loop-i.invariant c.loop-i-test.true)
 
 pub returns : goal.returns
-returns c = store_end _ _ _ _ _ c.loop-i.invariant c.loop-i-test.false
+returns c = let l = c.loop-i in
+    let s = c.args.src.now in
+    store_end _ _ _ (drop l.i s) l.invariant (omega (arith, length-drop l.i s, c.loop-i-test.false))
