@@ -68,5 +68,8 @@ pub words_more : (g : ℕ → List ℕ) (words : List ℕ) (i : ℕ) → i < len
 words_more g words i k = rw add-one (ap (gather g) (take-suc words i 0 k) ∙ gather_append g (take i words) (get_or words i 0 ∷ []) ∙ ap (λ t. gather g (take i words) ++ t) (append-nil (g (get_or words i 0))))
 
 -- the same by a sink
+pub puts_none : (a : Sink) → Puts a [] a
+puts_none a = record { written = written_none a.out.now a.at; same = refl }
+
 pub puts_then : {a b c : Sink} {t u : List ℕ} → Puts a t b → Puts b u c → Puts a (t ++ u) c
 puts_then p q = record { written = written_then p.written q.written; same = q.same ∙ p.same }
