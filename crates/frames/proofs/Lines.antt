@@ -5,14 +5,13 @@ use mathlib.Core.Option.{Option}
 use Prim.Native.Nat.{ℕ, ◌+◌, ◌^◌, ◌<◌, ◌≤◌}
 use native.Mathlib.Omega.{arith}
 use lib.ListN.{length, take}
-use lib.Seq.{length-take-le}
 use borrow.Author.Tests.{le-leb, lt-leb}
 use Rattle.kdb.specs.Frames.{unknown, framed, parse, bytes_of, obey, reply}
 use Rattle.text.specs.declared.Sink.{Sink}
-use Rattle.text.proofs.Write.{written_none}
+use Rattle.text.proofs.Write.{puts_none}
 use Rattle.replies.specs.declared.Store.{Store}
 use Rattle.replies.specs.Served.{Served}
-use Rattle.replies.proofs.Replies.{laid_same}
+use Rattle.replies.proofs.Replies.{untouched}
 
 -- an empty line
 pub reply_empty : (w line : List ℕ) → length line ≡ 0 → reply w line ≡ record { pool = w; text = [] }
@@ -38,13 +37,4 @@ reply_bytes w (a ∷ line) h k e = rw (le-leb (length (a ∷ line)) 128 k) (ap (
 
 -- an empty line leaves all as it was
 pub unanswered : (s : Store) (o : Sink) → o.at + 531 ≤ 2 ^ 63 → Served (record { pool = take s.words s.pool.now; text = [] }) unknown s o s o
-unanswered s o h =
-    record {
-      reply = record {
-        replied = record { holds = laid_same s.words s.pool.now; long = sym (length-take-le s.words s.pool.now (omega (arith, s.pool_long, s.within))); text = written_none o.out.now o.at; room = omega arith; within = s.within };
-        same_pool = refl;
-        same_work = refl;
-        same_out = refl;
-      };
-      work = refl;
-    }
+unanswered s o h = untouched s (puts_none o) (omega arith)

@@ -2,7 +2,7 @@
 use mathlib.Core.List.{List, [], ◌∷◌, ◌++◌}
 use mathlib.Core.Option.{Option, none, some}
 use mathlib.Core.Path.{◌≡◌, refl, sym, ap, ap₂, ◌∙◌}
-use Prim.Native.Nat.{ℕ, ◌≤◌, min}
+use Prim.Native.Nat.{ℕ, ◌+◌, ◌≤◌, min}
 use native.Mathlib.Omega.{arith}
 use lib.Dec.{leb, eqb, leb→le, nleb→lt}
 use lib.ListN.{length, take, drop, take-append-drop}
@@ -32,18 +32,22 @@ laid_front buffer ws h =
 pub stands : {r : Reply} {pool pool' out out' : List ℕ} {words at at' : ℕ} → Replied r pool out at pool' out' words at' → length pool ≡ 16384 → take words pool' ≡ r.pool
 stands {r} {pool} q h = ap₂ take q.long q.holds ∙ laid_front pool r.pool (omega (arith, q.long, q.within))
 
--- FF, and nothing is changed
-pub unframed : (s : Store) {o o' : Sink} → Puts o (70 ∷ 70 ∷ 10 ∷ []) o' → Served (refusal (take s.words s.pool.now)) unknown s o s o'
-unframed s p =
+-- a text is put, and nothing else is changed
+pub untouched : (s : Store) {o o' : Sink} {text : List ℕ} → Puts o text o' → o'.at ≤ o.at + 531 → Served (record { pool = take s.words s.pool.now; text = text }) unknown s o s o'
+untouched s p h =
     record {
       reply = record {
-        replied = record { holds = laid_same s.words s.pool.now; long = sym (length-take-le s.words s.pool.now (omega (arith, s.pool_long, s.within))); text = p.written; room = omega (arith, p.written.follows); within = s.within };
+        replied = record { holds = laid_same s.words s.pool.now; long = sym (length-take-le s.words s.pool.now (omega (arith, s.pool_long, s.within))); text = p.written; room = h; within = s.within };
         same_pool = refl;
         same_work = refl;
         same_out = p.same;
       };
       work = refl;
     }
+
+-- FF, and nothing is changed
+pub unframed : (s : Store) {o o' : Sink} → Puts o (70 ∷ 70 ∷ 10 ∷ []) o' → Served (refusal (take s.words s.pool.now)) unknown s o s o'
+unframed s p = untouched s p (omega (arith, p.written.follows))
 
 pub frame_empty : (bytes : List ℕ) → length bytes ≡ 0 → framed (some bytes) ≡ unknown
 frame_empty [] h = refl
